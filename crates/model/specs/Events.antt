@@ -1,0 +1,264 @@
+-- The seven events. The engines differ in the waker only.
+use Prim.Native.Nat.{ℕ, zero, suc, _+_, _*_, _-_, _%_, _^_}
+use mathlib.Core.Bool.{Bool, true, false, cond, not}
+use mathlib.Core.List.{List, [], _∷_, _++_}
+use lib.Dec.{eqb, ltb}
+use lib.ListN.{getD, set, replicate}
+use lib.Seq.{slice, paste}
+use lib.IntN.{ℤ, pos, negsuc, natAbs, _+ℤ_}
+use lib.Signed.{ltZ}
+use Rattle.model.specs.declared.Set.{Set}
+use Rattle.model.specs.declared.Outcome.{Outcome}
+use Rattle.model.specs.declared.Outcome.the-variants.{Done, Sleep, Again, Range}
+use Rattle.model.specs.declared.Copies.{Copies}
+use Rattle.model.specs.declared.Waking.{Waking}
+use Rattle.model.specs.Limits.{slots, semaphores, processes, valueMax, allSemaphores}
+use Rattle.model.specs.State.{Table, Sleeper, State, row, undoRow, freeSet, noSet}
+use Rattle.model.specs.Judge.{codeOf}
+use Rattle.model.specs.Look.{look, applied, valuesOf}
+use Rattle.model.specs.Marks.{mine, differing, maskOf}
+use Rattle.model.specs.Waking.{World, Ended, Waker, waking}
+use Rattle.model.specs.Checks.{live, identifierOf, slotOf, freeSlot, checkCreate, checkOperate, checkNumber, checkSetValue, checkRemove, checkProcess}
+use Rattle.model.specs.Counts.{forIncrease, forZero, countOf}
+
+pub data Event : Type 0 where
+  -- count, read mask, alter mask
+  create : ℕ → ℕ → ℕ → Event
+  -- process, identifier, the bytes of the operations
+  operate : ℕ → ℤ → List ℕ → Event
+  -- identifier, number, value
+  setValue : ℤ → ℕ → ℤ → Event
+  -- identifier
+  remove : ℤ → Event
+  -- process
+  signal : ℕ → Event
+  -- process
+  exit : ℕ → Event
+  -- identifier, number
+  query : ℤ → ℕ → Event
+
+-- what a query shows beside the value; zeros in every other answer
+pub record Seen : Type 0 where
+  pub last : ℕ
+  pub increase : ℕ
+  pub zero : ℕ
+  pub increaseMask : ℕ
+  pub zeroMask : ℕ
+
+-- "an answer is all that an event returns beside state, looks and wakings"
+pub record Answer : Type 0 where
+  pub code : ℤ
+  pub value : ℕ
+  pub seen : Seen
+
+pub record Result : Type 0 where
+  pub answer : Answer
+  pub state : State
+  pub looks : ℕ
+  pub wakings : List Waking
+
+abbrev pub nothingSeen : Seen
+nothingSeen = record { last = 0; increase = 0; zero = 0; increaseMask = 0; zeroMask = 0 }
+
+-- "Every other event has value 0."
+abbrev pub answer : ℤ → Answer
+answer code = record { code = code; value = 0; seen = nothingSeen }
+
+-- "A refused event returns its code, value 0, no looks and no wakings; the state is unchanged."
+abbrev pub refused : State → ℕ → Result
+refused s code = record { answer = answer (pos code); state = s; looks = 0; wakings = [] }
+
+-- done, with a new state, no looks, and these wakings
+abbrev pub doneWith : State → List Waking → Result
+doneWith s wakings = record { answer = answer (pos 0); state = s; looks = 0; wakings = wakings }
+
+-- refused with the code of the first check that applies, else what the event does
+abbrev pub checked : ℕ → State → Result → Result
+checked zero s does = does
+checked (suc code) s does = refused s (suc code)
+
+-- ---- what events do to the table and to the queue
+
+-- the adjustments with the eight of a slot at 0, for the processes 1 to n
+unfoldable pub clearRows : ℕ → ℕ → List ℤ → List ℤ
+clearRows zero slot l = l
+clearRows (suc n) slot l = paste (clearRows n slot l) (undoRow (suc n) slot) (replicate semaphores (pos 0)) semaphores
+
+-- the values, last processes and adjustments of a slot at 0
+unfoldable pub cleared : Table → ℕ → Table
+cleared t slot =
+    record {
+      values = paste (t .values) (row slot) (replicate semaphores 0) semaphores;
+      lasts = paste (t .lasts) (row slot) (replicate semaphores 0) semaphores;
+      adjustments = clearRows processes slot (t .adjustments);
+    }
+
+-- the adjustments with those of one semaphore at 0, for the processes 1 to n
+unfoldable pub clearNumber : ℕ → ℕ → ℕ → List ℤ → List ℤ
+clearNumber zero slot number l = l
+clearNumber (suc n) slot number l = set (clearNumber n slot number l) (undoRow (suc n) slot + number) (pos 0)
+
+-- "Set value also clears that semaphore's adjustments for all processes; last process stays."
+unfoldable pub assigned : Table → ℕ → ℕ → ℕ → Table
+assigned t slot number value =
+    record { values = set (t .values) (row slot + number) value; lasts = t .lasts; adjustments = clearNumber processes slot number (t .adjustments) }
+
+-- "cut to 0 to 32,767"
+unfoldable pub cut : ℕ → ℤ → ℕ
+cut v a = cond (ltZ (pos v +ℤ a) (pos 0)) 0 (cond (ltZ (pos valueMax) (pos v +ℤ a)) valueMax (natAbs (pos v +ℤ a)))
+
+-- "adds each adjustment of that process to its semaphore"
+unfoldable pub undoAll : List ℕ → List ℤ → List ℕ
+undoAll [] js = []
+undoAll (v ∷ vs) [] = v ∷ vs
+undoAll (v ∷ vs) (a ∷ js) = cut v a ∷ undoAll vs js
+
+-- "Exit adds each adjustment of that process to its semaphore, cut to 0 to 32,767, sets it to zero. Last process stays."
+unfoldable pub exited : Table → ℕ → Table
+exited t p =
+    record {
+      values = undoAll (t .values) (slice (undoRow p 0) (undoRow p 0 + allSemaphores) (t .adjustments));
+      lasts = t .lasts;
+      adjustments = paste (t .adjustments) (undoRow p 0) (replicate allSemaphores (pos 0)) allSemaphores;
+    }
+
+-- the sleepers that pass the test, in order
+unfoldable pub keep : (Sleeper → Bool) → List Sleeper → List Sleeper
+keep test [] = []
+keep test (s ∷ q) = cond (test s) (s ∷ keep test q) (keep test q)
+
+-- the sleepers that pass the test, ended with a code, oldest first
+unfoldable pub endedWith : ℤ → (Sleeper → Bool) → List Sleeper → List Waking
+endedWith code test [] = []
+endedWith code test (s ∷ q) = cond (test s) (waking (s .process) code ∷ endedWith code test q) (endedWith code test q)
+
+-- is it a call of this process?
+abbrev pub isOf : ℕ → Sleeper → Bool
+isOf p s = eqb (s .process) p
+
+-- ---- waking
+
+-- what the host is after a waking, and what the event returns
+abbrev pub wokenAs : State → Ended → Result
+wokenAs s e =
+    record {
+      answer = answer (pos 0);
+      state = record { sets = s .sets; table = e .world .table; queue = e .world .queue };
+      looks = e .looks;
+      wakings = e .world .wakings;
+    }
+
+abbrev pub world : Table → List Sleeper → World
+world t q = record { table = t; queue = q; wakings = [] }
+
+-- ---- the events
+
+-- "Create takes the lowest free slot, with values, adjustments and last processes at 0; its value is the identifier."
+unfoldable pub doCreate : State → ℕ → ℕ → ℕ → Result
+doCreate s count read alter =
+    let slot = freeSlot (s .sets) in
+    checked (checkCreate s count) s
+    (record {
+      answer = record { code = pos 0; value = identifierOf (s .sets) slot; seen = nothingSeen };
+      state = record {
+        sets = set (s .sets) slot (record { generation = getD (s .sets) slot noSet .generation; count = count; read = read; alter = alter });
+        table = cleared (s .table) slot;
+        queue = s .queue;
+      };
+      looks = 0;
+      wakings = [];
+    })
+
+-- an array that passed the checks, as it was judged: the copy becomes the state and the set is treated; "Sleeping changes
+-- nothing but the queue"; or it is refused
+unfoldable pub operated : Waker → State → Sleeper → Outcome → Copies → Result
+operated wake s c Done copies =
+    let t = applied (s .table) c copies in
+    wokenAs s (wake (c .slot) (differing 0 0 (valuesOf (s .table) (c .slot)) (valuesOf t (c .slot))) (world t (s .queue)) 0)
+operated wake s c Sleep copies =
+    record { answer = answer (codeOf Sleep); state = record { sets = s .sets; table = s .table; queue = s .queue ++ c ∷ [] }; looks = 0; wakings = [] }
+operated wake s c Again copies = refused s 11
+operated wake s c Range copies = refused s 34
+
+-- the call of a process: an array at the set that an identifier names
+abbrev pub call : ℕ → ℤ → List ℕ → Sleeper
+call p i bytes = record { process = p; slot = slotOf i; array = bytes }
+
+unfoldable pub doOperate : Waker → State → ℕ → ℤ → List ℕ → Result
+doOperate wake s p i bytes =
+    checked (checkOperate s p i bytes) s
+    (operated wake s (call p i bytes) (look (s .table) (call p i bytes) .outcome) (look (s .table) (call p i bytes) .copies))
+
+-- touched is "in set value always the named one"; no other value differs
+unfoldable pub doSetValue : Waker → State → ℤ → ℕ → ℤ → Result
+doSetValue wake s i n v =
+    checked (checkSetValue s i n v) s
+    (wokenAs s (wake (slotOf i) (2 ^ n) (world (assigned (s .table) (slotOf i) n (natAbs v)) (s .queue)) 0))
+
+-- "Remove ends the set's sleepers with 43, oldest first, frees the slot, and puts all of it, adjustments too, to 0 but its
+-- generation", which "goes up by one at each removal and goes from 65,535 round to 0"
+unfoldable pub doRemove : State → ℤ → Result
+doRemove s i =
+    let slot = slotOf i in
+    checked (checkRemove s i) s
+    (doneWith
+    (record {
+      sets = set (s .sets) slot (freeSet ((getD (s .sets) slot noSet .generation + 1) % 65536));
+      table = cleared (s .table) slot;
+      queue = keep (λ c. not (mine slot c)) (s .queue);
+    })
+    (endedWith (pos 43) (mine slot) (s .queue)))
+
+-- "Signal takes a sleeper out and ends it with 4. On a process awake it answers 0 and changes nothing."
+unfoldable pub doSignal : State → ℕ → Result
+doSignal s p =
+    checked (checkProcess p) s
+    (doneWith
+    (record { sets = s .sets; table = s .table; queue = keep (λ c. not (isOf p c)) (s .queue) })
+    (endedWith (pos 4) (isOf p) (s .queue)))
+
+-- a set is treated if it is live
+unfoldable pub treat : Waker → List Set → ℕ → ℕ → Ended → Ended
+treat wake sets slot touched e = cond (live sets slot) (wake slot touched (e .world) (e .looks)) e
+
+-- "exit every live set from slot 0 up", each with its touched semaphores
+unfoldable pub treatFrom : Waker → List Set → ℕ → List ℕ → Ended → Ended
+treatFrom wake sets slot [] e = e
+treatFrom wake sets slot (touched ∷ more) e = treatFrom wake sets (slot + 1) more (treat wake sets slot touched e)
+
+-- the touched semaphores of n slots from one on
+unfoldable pub touchedFrom : ℕ → ℕ → Table → Table → List ℕ
+touchedFrom zero slot t t′ = []
+touchedFrom (suc n) slot t t′ = differing 0 0 (valuesOf t slot) (valuesOf t′ slot) ∷ touchedFrom n (slot + 1) t t′
+
+-- "Exit takes a sleeper out without a waking, then adds each adjustment .., and treats the sets."
+unfoldable pub doExit : Waker → State → ℕ → Result
+doExit wake s p =
+    let t = exited (s .table) p in
+    checked (checkProcess p) s
+    (wokenAs s (treatFrom wake (s .sets) 0 (touchedFrom slots 0 (s .table) t) (record { world = world t (keep (λ c. not (isOf p c)) (s .queue)); looks = 0 })))
+
+-- "Query's answer is value, last process, and the two wait counts with their masks."
+unfoldable pub seenAt : State → ℕ → ℕ → Seen
+seenAt s slot n =
+    record {
+      last = getD (s .table .lasts) (row slot + n) 0;
+      increase = countOf (forIncrease (s .table) slot n) (s .queue);
+      zero = countOf (forZero (s .table) slot n) (s .queue);
+      increaseMask = maskOf (forIncrease (s .table) slot n) 0 (s .queue);
+      zeroMask = maskOf (forZero (s .table) slot n) 0 (s .queue);
+    }
+
+unfoldable pub doQuery : State → ℤ → ℕ → Result
+doQuery s i n =
+    checked (checkNumber s i n) s
+    (record { answer = record { code = pos 0; value = getD (s .table .values) (row (slotOf i) + n) 0; seen = seenAt s (slotOf i) n }; state = s; looks = 0; wakings = [] })
+
+unfoldable pub event : Waker → State → Event → Result
+event wake s (create count read alter) = doCreate s count read alter
+event wake s (operate p i bytes) = doOperate wake s p i bytes
+event wake s (setValue i n v) = doSetValue wake s i n v
+event wake s (remove i) = doRemove s i
+event wake s (signal p) = doSignal s p
+event wake s (exit p) = doExit wake s p
+event wake s (query i n) = doQuery s i n

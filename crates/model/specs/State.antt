@@ -1,0 +1,51 @@
+-- What the host holds ("What the host holds").
+use Prim.Native.Nat.{ℕ, _+_, _*_, _-_}
+use mathlib.Core.List.{List, []}
+use lib.ListN.{replicate}
+use lib.IntN.{ℤ, pos}
+use Rattle.model.specs.declared.Set.{Set}
+use Rattle.model.specs.Limits.{slots, semaphores, allSemaphores, allAdjustments}
+
+-- The numbers of every semaphore: its value and its last process, and for each process an undo adjustment.
+pub record Table : Type 0 where
+  pub values : List ℕ
+  pub lasts : List ℕ
+  pub adjustments : List ℤ
+
+-- A sleeping call: its process, the slot of its set, and the bytes of its array as they came.
+pub record Sleeper : Type 0 where
+  pub process : ℕ
+  pub slot : ℕ
+  pub array : List ℕ
+
+-- "Sleepers stand in the order in which they went to sleep": the oldest is the first of the queue.
+pub record State : Type 0 where
+  pub sets : List Set
+  pub table : Table
+  pub queue : List Sleeper
+
+-- where the eight semaphores of a slot begin
+abbrev pub row : ℕ → ℕ
+row slot = slot * semaphores
+
+-- where the eight adjustments of a process for a slot begin
+abbrev pub undoRow : ℕ → ℕ → ℕ
+undoRow process slot = (process - 1) * allSemaphores + row slot
+
+-- a free slot of a generation: every other number is 0
+abbrev pub freeSet : ℕ → Set
+freeSet generation = record { generation = generation; count = 0; read = 0; alter = 0 }
+
+-- "a fresh host has all 256 adjustments at zero, four free slots with every number 0, and no sleepers"
+abbrev pub freshTable : Table
+freshTable = record { values = replicate allSemaphores 0; lasts = replicate allSemaphores 0; adjustments = replicate allAdjustments (pos 0) }
+
+abbrev pub freshState : State
+freshState = record { sets = replicate slots (freeSet 0); table = freshTable; queue = [] }
+
+-- what stands past the end of the sets, and of the queue
+abbrev pub noSet : Set
+noSet = freeSet 0
+
+abbrev pub noSleeper : Sleeper
+noSleeper = record { process = 0; slot = 0; array = [] }

@@ -1,0 +1,180 @@
+// What the host holds, and what an event answers: the data of the service, and the fresh host.
+//
+// The definitions that every promise cites stand in specs/, in the order of the rules they say; the laws about them,
+// and the claim that the quick waking rule equals the plain one, in proofs/. The caller holds a `Host` and hands it to
+// each event; what a `Host` means is the `State` of specs/State.antt, and specs/Layout.antt ties the two.
+ghost use mathlib.Core.Path.{_≡_};
+ghost use Rattle.model.specs.State.{freshState};
+ghost use Rattle.model.specs.Layout.{hostOf};
+
+// The limits. Each has its twin in specs/Limits.antt.
+pub const SETS: usize = 4;
+
+pub const SEMAPHORES: usize = 8;
+
+pub const PROCESSES: usize = 8;
+
+pub const OPERATIONS: usize = 8;
+
+pub const VALUE_MAX: u16 = 32767;
+
+// The bytes of one operation, and of the longest array.
+pub const OPERATION_BYTES: usize = 6;
+
+pub const ARRAY_BYTES: usize = OPERATION_BYTES * OPERATIONS;
+
+// The numbers of a table: semaphores of all sets, and adjustments of all processes.
+pub const ALL_SEMAPHORES: usize = SETS * SEMAPHORES;
+
+pub const ALL_ADJUSTMENTS: usize = PROCESSES * ALL_SEMAPHORES;
+
+pub const ALL_BYTES: usize = PROCESSES * ARRAY_BYTES;
+
+// A slot. `count` is the number of semaphores, 0 in a free slot; the masks have a bit for each process.
+pub struct Set {
+    pub generation: u16,
+    pub count: u8,
+    pub read: u8,
+    pub alter: u8,
+}
+
+// The place of a sleeper in the queue: its process, the slot it sleeps at, the length of its array in bytes, and the
+// mask of the semaphores that the array names.
+pub struct Place {
+    pub process: u8,
+    pub slot: u8,
+    pub size: u8,
+    pub names: u8,
+}
+
+// The sleepers, oldest first: the first `asleep` of the places. The others are zero.
+pub struct Line {
+    pub asleep: usize,
+    pub places: [Place; PROCESSES],
+}
+
+// All that the host holds. Values and last processes are addressed by slot and number, adjustments by process, slot and
+// number; the array of a sleeping process lies at its process's `ARRAY_BYTES` of `arrays`.
+pub struct Host {
+    pub sets: [Set; SETS],
+    pub values: [u16; ALL_SEMAPHORES],
+    pub lasts: [u8; ALL_SEMAPHORES],
+    pub adjustments: [i16; ALL_ADJUSTMENTS],
+    pub line: Line,
+    pub arrays: [u8; ALL_BYTES],
+}
+
+// One operation of an array, decoded.
+pub struct Operation {
+    pub number: u16,
+    pub amount: i16,
+    pub flags: u16,
+}
+
+// What an amount makes of a value.
+pub enum Next {
+    Over,
+    Stop,
+    To(u16),
+}
+
+// What an amount makes of an adjustment.
+pub enum Undo {
+    Out,
+    To(i16),
+}
+
+// What judging an array comes to.
+pub enum Outcome {
+    Done,
+    Sleep,
+    Again,
+    Range,
+}
+
+// The copy that an array is judged on: a set's values, and the caller's adjustments for them.
+pub struct Copies {
+    pub values: [u16; SEMAPHORES],
+    pub adjustments: [i16; SEMAPHORES],
+}
+
+// The outcome, the position of the operation that decided, and the copies: as the array leaves them if it is done, else
+// as they were.
+pub struct Judged {
+    pub outcome: Outcome,
+    pub position: usize,
+    pub copies: Copies,
+}
+
+// Which waking rule an event goes by.
+pub enum Engine {
+    Plain,
+    Quick,
+}
+
+// A sleeper that was ended, and its code.
+pub struct Waking {
+    pub process: u8,
+    pub code: i32,
+}
+
+// The first `count` of the list; the others are zero.
+pub struct Wakings {
+    pub count: usize,
+    pub list: [Waking; PROCESSES],
+}
+
+// What an event returns: the host after it, its answer, its looks and its wakings.
+pub struct Step {
+    pub host: Host,
+    pub code: i32,
+    pub value: u32,
+    pub looks: usize,
+    pub wakings: Wakings,
+}
+
+// What a query answers. The host stays as it is.
+pub struct Queried {
+    pub code: i32,
+    pub value: u16,
+    pub last: u8,
+    pub increase: u32,
+    pub zero: u32,
+    pub increase_mask: u8,
+    pub zero_mask: u8,
+}
+
+// A host at its start: four free slots with every number 0, no adjustments, and nobody asleep.
+pub fn fresh() -> Host
+    ensures { λ r. ⌜ r ≡ hostOf freshState ⌝ }
+{
+    let set = Set {
+        generation: 0,
+        count: 0,
+        read: 0,
+        alter: 0,
+    };
+    let place = Place {
+        process: 0,
+        slot: 0,
+        size: 0,
+        names: 0,
+    };
+    let sets = [set; SETS];
+    let values = [0u16; ALL_SEMAPHORES];
+    let lasts = [0u8; ALL_SEMAPHORES];
+    let adjustments = [0i16; ALL_ADJUSTMENTS];
+    let places = [place; PROCESSES];
+    let arrays = [0u8; ALL_BYTES];
+    Host {
+        sets: sets,
+        values: values,
+        lasts: lasts,
+        adjustments: adjustments,
+        line: Line {
+            asleep: 0,
+            places: places,
+        },
+        arrays: arrays,
+    }
+}
