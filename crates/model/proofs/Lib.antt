@@ -1,3 +1,24 @@
 -- Laws of the definitions, and what is proved of the two engines.
+-- Lists, masks, and what holds of every state:
 pub mod Lists
+pub mod Bits
 pub mod Invariant
+-- the laws of each file of specs/:
+pub mod MarkLaws
+pub mod JudgeLaws
+pub mod LookLaws
+pub mod QueueLaws
+pub mod TableLaws
+pub mod CheckLaws
+pub mod Ones
+pub mod LayoutLaws
+-- a waking, in either engine:
+pub mod WakingLaws
+pub mod Rules
+pub mod Calm
+-- the two engines agree, and the situations:
+pub mod Agree
+pub mod EventLaws
+pub mod WakingEvents
+pub mod Engines
+pub mod Situations

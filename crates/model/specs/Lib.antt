@@ -11,3 +11,4 @@ pub mod Counts
 pub mod Events
 pub mod Runs
 pub mod Layout
+pub mod Situations

@@ -1,0 +1,101 @@
+//! What the programs wrote for one file, and the first difference between them.
+
+use second::{Event, RunFile};
+
+use crate::program::{Feed, Program};
+
+/// The programs that are compared.
+pub struct Programs {
+    pub quick: Program,
+    pub plain: Program,
+    pub second_quick: Program,
+    pub second_plain: Program,
+}
+
+/// The texts that all the programs agree on.
+pub struct Texts {
+    pub quick: Vec<u8>,
+    pub plain: Vec<u8>,
+}
+
+/// Where two texts part, or what else went wrong, in words.
+pub type Difference = String;
+
+impl Programs {
+    /// Runs all of them on the file, one after the other.
+    pub fn compare(&self, file: &[u8], feed: Feed) -> Result<Texts, Difference> {
+        let quick = agreed(&self.quick, &self.second_quick, file, feed)?;
+        let plain = agreed(&self.plain, &self.second_plain, file, feed)?;
+        let pair = [self.quick.name(), self.plain.name()];
+        let (left, right) = (without_looks(&quick, file), without_looks(&plain, file));
+        same(&pair, &left, &right, file).map_err(|words| format!("looks left out, {words}"))?;
+        Ok(Texts { quick, plain })
+    }
+}
+
+/// The text that two programs both write.
+fn agreed(one: &Program, two: &Program, file: &[u8], feed: Feed) -> Result<Vec<u8>, Difference> {
+    let run = |program: &Program| {
+        program.run(file, feed).map_err(|words| format!("{}: {words}", program.name()))
+    };
+    let (left, right) = (run(one)?, run(two)?);
+    same(&[one.name(), two.name()], &left, &right, file)?;
+    Ok(left)
+}
+
+/// Are the two texts equal? The words show the first line where they aren't.
+pub fn same(names: &[String; 2], left: &[u8], right: &[u8], file: &[u8]) -> Result<(), Difference> {
+    if left == right {
+        return Ok(());
+    }
+    let (mut lines, mut others) = (lines_of(left), lines_of(right));
+    let mut line = 0;
+    loop {
+        let pair = [lines.next(), others.next()];
+        if pair[0] != pair[1] {
+            let place = match line {
+                0 => "the first line".to_string(),
+                _ => format!("event {}, {}", line - 1, event_in_words(file, line - 1)),
+            };
+            let shown = pair.map(|line| line.map_or("no such line".into(), in_quotes));
+            return Err(format!(
+                "different at {place}\n  {}: {}\n  {}: {}",
+                names[0], shown[0], names[1], shown[1]
+            ));
+        }
+        line += 1;
+    }
+}
+
+/// The lines, each with its newline where it has one.
+fn lines_of(text: &[u8]) -> impl Iterator<Item = &[u8]> {
+    text.split_inclusive(|&byte| byte == b'\n')
+}
+
+fn in_quotes(line: &[u8]) -> String {
+    format!("{:?}", String::from_utf8_lossy(line))
+}
+
+fn event_in_words(file: &[u8], position: usize) -> String {
+    let event = RunFile::read(file).ok().and_then(|run| run.events().nth(position));
+    event.map_or("not in the file".to_string(), |event| format!("{event:?}"))
+}
+
+/// The text without the looks, the fourth field of every line that answers no query.
+fn without_looks(text: &[u8], file: &[u8]) -> Vec<u8> {
+    let run = match RunFile::read(file) {
+        Ok(run) => run,
+        Err(_) => return text.to_vec(),
+    };
+    let mut lines = lines_of(text);
+    let mut rest = lines.next().unwrap_or_default().to_vec();
+    for (line, event) in lines.zip(run.events()) {
+        let is_query = matches!(event, Event::Query { .. });
+        for (index, field) in line.split_inclusive(|&byte| byte == b' ').enumerate() {
+            if is_query || index != 3 {
+                rest.extend_from_slice(field);
+            }
+        }
+    }
+    rest
+}

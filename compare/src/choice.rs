@@ -1,0 +1,229 @@
+//! Single events, chosen with an eye on what is there.
+
+use second::write::{self, Body, Operation, NOWAIT, UNDO};
+
+use crate::random::Rng;
+use crate::scene::{Scene, Target};
+
+pub const MAX: i32 = 32_767;
+
+/// Brings an amount into the sixteen bits it has.
+pub fn narrow(amount: i32) -> i16 {
+    amount.clamp(i16::MIN.into(), i16::MAX.into()) as i16
+}
+
+/// A semaphore number that the set has.
+pub fn number(rng: &mut Rng, target: &Target) -> u16 {
+    rng.below(target.values.len()) as u16
+}
+
+/// Two different semaphore numbers of a set with at least two.
+pub fn two_numbers(rng: &mut Rng, target: &Target) -> (u16, u16) {
+    let count = target.values.len();
+    let first = rng.below(count);
+    (first as u16, ((first + 1 + rng.below(count - 1)) % count) as u16)
+}
+
+/// Small amounts mostly, and those just at and just beyond what the value allows.
+fn amount(rng: &mut Rng, value: i32) -> i16 {
+    narrow(match rng.below(20) {
+        0 => -value,
+        1 => -value - 1,
+        2 => MAX - value,
+        3 => MAX - value + 1,
+        4 => rng.pick(&[-32_768, -32_767, 32_767, -32_768]),
+        5 => i32::from(rng.next() as i16),
+        6..=8 => 0,
+        _ => rng.between(-3, 3),
+    })
+}
+
+pub fn flags(rng: &mut Rng) -> u16 {
+    let mut flags = 0;
+    if rng.once_in(3) {
+        flags |= UNDO;
+    }
+    if rng.once_in(6) {
+        flags |= NOWAIT;
+    }
+    if rng.once_in(10) {
+        flags |= rng.next() as u16 & !(UNDO | NOWAIT);
+    }
+    flags
+}
+
+pub fn operation(rng: &mut Rng, target: &Target) -> Operation {
+    let number = number(rng, target);
+    let amount = amount(rng, target.values[usize::from(number)]);
+    (number, amount, flags(rng))
+}
+
+fn operations(rng: &mut Rng, target: &Target, most: usize) -> Vec<Operation> {
+    (0..rng.below(most + 1)).map(|_| operation(rng, target)).collect()
+}
+
+/// An operate of one to eight operations by a process awake.
+pub fn operate(scene: &mut Scene) -> Body {
+    let target = scene.target();
+    let caller = if scene.rng.once_in(30) { scene.process() } else { scene.caller() };
+    let most = scene.rng.pick(&[0, 1, 2, 3, 7]);
+    let mut array = operations(&mut scene.rng, &target, most);
+    array.push(operation(&mut scene.rng, &target));
+    write::operate(caller, target.identifier, &array)
+}
+
+/// An operate whose last operation can't go through yet.
+pub fn sleepy(scene: &mut Scene) -> Body {
+    let target = scene.target();
+    let caller = scene.caller();
+    let rng = &mut scene.rng;
+    let mut array = operations(rng, &target, 4);
+    let number = number(rng, &target);
+    let value = target.values[usize::from(number)];
+    let amount = if value != 0 && rng.once_in(2) { 0 } else { -value - rng.between(1, 2) };
+    array.push((number, narrow(amount), flags(rng) & !NOWAIT));
+    write::operate(caller, target.identifier, &array)
+}
+
+/// An event that may well wake somebody.
+pub fn stir(scene: &mut Scene) -> Body {
+    match scene.rng.below(6) {
+        0 | 1 => set_value(scene),
+        2 => exit(scene),
+        _ => operate(scene),
+    }
+}
+
+pub fn create(scene: &mut Scene) -> Body {
+    let rng = &mut scene.rng;
+    let count = if rng.once_in(12) { rng.byte() } else { rng.between(1, 8) as u8 };
+    let masks = if rng.once_in(3) { [rng.byte() | rng.byte(), rng.byte()] } else { [0xFF; 2] };
+    write::create(count, masks[0], masks[1])
+}
+
+pub fn set_value(scene: &mut Scene) -> Body {
+    let target = scene.target();
+    let rng = &mut scene.rng;
+    let number = number(rng, &target);
+    let present = target.values[usize::from(number)];
+    let value = match rng.below(12) {
+        0 => present,
+        1 => MAX - rng.between(0, 4),
+        2 => rng.between(0, MAX),
+        3 => present + 1,
+        4 => present - 1,
+        _ => rng.between(0, 4),
+    };
+    write::set_value(target.identifier, number, value)
+}
+
+pub fn remove(scene: &mut Scene) -> Body {
+    write::remove(scene.target().identifier)
+}
+
+pub fn signal(scene: &mut Scene) -> Body {
+    let process = match &scene.asleep()[..] {
+        [] => scene.process(),
+        asleep => scene.rng.pick(asleep),
+    };
+    write::signal(process)
+}
+
+pub fn exit(scene: &mut Scene) -> Body {
+    write::exit(scene.process())
+}
+
+pub fn query(scene: &mut Scene) -> Body {
+    let target = scene.target();
+    let number = number(&mut scene.rng, &target);
+    write::query(target.identifier, number)
+}
+
+/// Any event, as often as in everyday traffic.
+pub fn any(scene: &mut Scene) -> Body {
+    match scene.rng.below(40) {
+        0..=1 => create(scene),
+        2..=6 => set_value(scene),
+        7 => remove(scene),
+        8..=9 => signal(scene),
+        10..=12 => exit(scene),
+        13..=17 => query(scene),
+        18..=19 => refusal(scene),
+        20..=27 => sleepy(scene),
+        _ => operate(scene),
+    }
+}
+
+/// An event that some check refuses, if only by one.
+pub fn refusal(scene: &mut Scene) -> Body {
+    let target = scene.target();
+    let stranger = stale(scene);
+    let (process, caller) = (scene.process(), scene.caller());
+    let rng = &mut scene.rng;
+    let outside = rng.pick(&[0, 9, 10, 128, 255]);
+    let beyond = target.values.len() as u16 + rng.pick(&[0, 0, 1, 8, 248, 256, 65_000]);
+    let too_many = vec![operation(rng, &target); rng.pick(&[9, 9, 10, 64])];
+    let mut array = operations(rng, &target, 7);
+    match rng.below(17) {
+        0 => write::create(rng.pick(&[0, 9, 255]), 0xFF, 0xFF),
+        1 => write::create(rng.between(1, 8) as u8, rng.byte(), rng.byte()),
+        2 => write::operate(outside, rng.pick(&[target.identifier, stranger]), &array),
+        3 => write::operate(process, rng.pick(&[target.identifier, stranger]), &[]),
+        4 => write::operate(process, rng.pick(&[target.identifier, stranger]), &too_many),
+        5 | 6 => {
+            array.insert(rng.below(array.len() + 1), (beyond, amount(rng, 0), flags(rng)));
+            array.truncate(8);
+            write::operate(caller, rng.pick(&[target.identifier, stranger]), &array)
+        }
+        7 | 8 => {
+            array.push((0, narrow(rng.pick(&[0, 1, -1])), flags(rng)));
+            write::operate(process, target.identifier, &array)
+        }
+        9 => write::set_value(stranger, 0, 40_000),
+        10 => write::set_value(target.identifier, beyond, 40_000),
+        11 => write::set_value(target.identifier, 0, rng.pick(&[-1, 32_768, i32::MIN, i32::MAX])),
+        12 => write::remove(stranger),
+        13 => write::signal(outside),
+        14 => write::exit(outside),
+        15 => write::query(stranger, number(rng, &target)),
+        _ => write::query(target.identifier, beyond),
+    }
+}
+
+/// An identifier close to a live one that names nothing, mostly.
+pub fn stale(scene: &mut Scene) -> i32 {
+    let identifier = scene.target().identifier;
+    let rng = &mut scene.rng;
+    match rng.below(8) {
+        0 => identifier + 4,
+        1 => identifier - 4,
+        2 => identifier + 262_144,
+        3 => -1 - identifier,
+        4 => identifier | i32::MIN,
+        5 => identifier ^ 0x0001_0000,
+        6 => rng.between(0, 3),
+        _ => rng.next() as i32,
+    }
+}
+
+/// A body of good form, and nothing else: each field is any number, in half of the bodies a small
+/// one.
+pub fn random(scene: &mut Scene) -> Body {
+    let rng = &mut scene.rng;
+    let (kind, length) = (rng.between(1, 7), rng.pick(&[0, 1, 2, 3, 4, 7, 8, 9]));
+    let mask = if rng.once_in(2) { 3 } else { u64::MAX };
+    let mut field = || rng.next() & mask;
+    match kind {
+        1 => write::create(field() as u8, field() as u8, field() as u8),
+        2 => {
+            let mut operation = |_| (field() as u16, field() as i16, field() as u16);
+            let array: Vec<Operation> = (0..length).map(&mut operation).collect();
+            write::operate(field() as u8, field() as i32, &array)
+        }
+        3 => write::set_value(field() as i32, field() as u16, field() as i32),
+        4 => write::remove(field() as i32),
+        5 => write::signal(field() as u8),
+        6 => write::exit(field() as u8),
+        _ => write::query(field() as i32, field() as u16),
+    }
+}

@@ -1,0 +1,70 @@
+//! Small files in full: every cut of the whole example, every changed bit of its table, every
+//! unknown kind, and every length of each kind.
+
+use second::write::{operate, run_file, Body};
+
+/// The whole example of 44 bytes: create, an operate that sleeps, one that wakes it.
+const EXAMPLE: [u8; 44] = [
+    0x03, 0x00, 0x0E, 0x00, 0x04, 0x00, 0x12, 0x00, 0x0D, 0x00, 0x1F, 0x00, 0x0D, 0x00, 0x01, 0x01,
+    0xFF, 0xFF, 0x02, 0x01, 0x00, 0x00, 0x00, 0x00, 0x01, 0x00, 0x00, 0xFF, 0xFF, 0x00, 0x00, 0x02,
+    0x02, 0x00, 0x00, 0x00, 0x00, 0x01, 0x00, 0x00, 0x01, 0x00, 0x00, 0x00,
+];
+/// Bytes of its head and table.
+const TABLE: usize = 14;
+
+pub fn files() -> Vec<Vec<u8>> {
+    let mut files = vec![EXAMPLE.to_vec(), vec![0; 2], vec![0; 65_535], vec![0; 65_536]];
+    files.extend((0..EXAMPLE.len()).map(|length| EXAMPLE[..length].to_vec()));
+    files.extend([1, 2, 100].map(|more| [&EXAMPLE[..], &vec![0; more]].concat()));
+    files.extend(changed_tables());
+    files.extend(sums_that_go_round());
+    files.extend(kinds_and_lengths().into_iter().map(|body| run_file(&[body])));
+    files
+}
+
+/// Each byte of head and table with one bit changed, one more, and one less.
+fn changed_tables() -> Vec<Vec<u8>> {
+    let mut files = Vec::new();
+    for place in 0..TABLE {
+        let byte = EXAMPLE[place];
+        let bits = (0..8).map(|bit| byte ^ 1 << bit);
+        for changed in bits.chain([byte.wrapping_add(1), byte.wrapping_sub(1)]) {
+            let mut file = EXAMPLE.to_vec();
+            file[place] = changed;
+            files.push(file);
+        }
+    }
+    files
+}
+
+/// Two events whose offsets and lengths fit only where sums are taken modulo 65,536.
+fn sums_that_go_round() -> Vec<Vec<u8>> {
+    let file = |back: u16| {
+        let (first, second) = (u16::MAX - back, 9 - back);
+        let numbers = [2, 10, first, second, 12 - second];
+        let mut file: Vec<u8> = numbers.iter().flat_map(|number| number.to_le_bytes()).collect();
+        file.extend([6, 1]);
+        file
+    };
+    (0..10).map(file).collect()
+}
+
+fn kinds_and_lengths() -> Vec<Body> {
+    let mut bodies = vec![Body::new()];
+    for length in 1..20 {
+        for kind in 1..8 {
+            let mut body = vec![0; length];
+            body[0] = kind;
+            bodies.push(body);
+        }
+    }
+    for number in (0..11_usize).chain([254, 255]) {
+        for present in [number, 0, number + 1, number.saturating_sub(1), 256] {
+            let mut body = operate(1, 0, &vec![(0, 1, 0); present]);
+            body[6] = number as u8;
+            bodies.push(body);
+        }
+    }
+    bodies.extend([0].into_iter().chain(8..=255).map(|kind| vec![kind, 1]));
+    bodies
+}

@@ -1,0 +1,168 @@
+//! Counts what came, and says what never came.
+
+use std::collections::BTreeMap;
+
+use second::{Event, RunFile};
+
+use crate::check::Texts;
+
+/// Each event with the codes it can answer and the codes it can wake with.
+const EVENTS: [(&str, &[i32], &[i32]); 7] = [
+    ("create", &[0, 22, 28], &[]),
+    ("operate", &[0, -1, 3, 7, 11, 13, 16, 22, 27, 34], &[0, 11, 34]),
+    ("set value", &[0, 22, 34], &[0, 11, 34]),
+    ("remove", &[0, 22], &[43]),
+    ("signal", &[0, 3], &[4]),
+    ("exit", &[0, 3], &[0, 11, 34]),
+    ("query", &[0, 22], &[]),
+];
+const BAD: [i32; 4] = [201, 202, 203, 204];
+/// Files of more bytes than this count as long.
+const LONG: usize = 60_000;
+/// Width of the table's first column.
+const TITLE: usize = 20;
+
+type Counts<K> = BTreeMap<K, u64>;
+
+#[derive(Default)]
+pub struct Tally {
+    files: u64,
+    long: u64,
+    bytes: u64,
+    events: u64,
+    bad: Counts<i32>,
+    codes: Counts<(usize, i32)>,
+    wakings: Counts<(usize, i32)>,
+    quick_looks: Counts<i32>,
+    plain_looks: Counts<i32>,
+}
+
+fn index_of(event: &Event) -> usize {
+    match event {
+        Event::Create { .. } => 0,
+        Event::Operate { .. } => 1,
+        Event::SetValue { .. } => 2,
+        Event::Remove { .. } => 3,
+        Event::Signal { .. } => 4,
+        Event::Exit { .. } => 5,
+        Event::Query { .. } => 6,
+    }
+}
+
+fn number(field: Option<&str>) -> i32 {
+    field.and_then(|field| field.parse().ok()).unwrap_or(i32::MIN)
+}
+
+impl Tally {
+    /// Counts one file by the texts that the programs agreed on.
+    pub fn add(&mut self, file: &[u8], texts: &Texts) {
+        self.files += 1;
+        self.long += u64::from(file.len() > LONG);
+        self.bytes += file.len() as u64;
+        let quick = String::from_utf8_lossy(&texts.quick);
+        let plain = String::from_utf8_lossy(&texts.plain);
+        let mut lines = quick.lines().zip(plain.lines());
+        let first = lines.next().map_or("", |(first, _)| first);
+        if let Some(code) = first.strip_prefix("bad ") {
+            *self.bad.entry(number(Some(code))).or_default() += 1;
+        } else if let Ok(run) = RunFile::read(file) {
+            for (event, (quick, plain)) in run.events().zip(lines) {
+                self.add_line(index_of(&event), quick, plain);
+            }
+        }
+    }
+
+    fn add_line(&mut self, event: usize, quick: &str, plain: &str) {
+        self.events += 1;
+        let mut fields = quick.split(' ').skip(1);
+        *self.codes.entry((event, number(fields.next()))).or_default() += 1;
+        if EVENTS[event].0 == "query" {
+            return;
+        }
+        *self.quick_looks.entry(number(fields.nth(1))).or_default() += 1;
+        *self.plain_looks.entry(number(plain.split(' ').nth(3))).or_default() += 1;
+        for waking in fields {
+            let code = number(waking.split('=').nth(1));
+            *self.wakings.entry((event, code)).or_default() += 1;
+        }
+    }
+
+    pub fn merge(&mut self, other: Tally) {
+        self.files += other.files;
+        self.long += other.long;
+        self.bytes += other.bytes;
+        self.events += other.events;
+        add_all(&mut self.bad, other.bad);
+        add_all(&mut self.codes, other.codes);
+        add_all(&mut self.wakings, other.wakings);
+        add_all(&mut self.quick_looks, other.quick_looks);
+        add_all(&mut self.plain_looks, other.plain_looks);
+    }
+
+    /// The whole count as a table.
+    pub fn table(&self) -> String {
+        let mut table = format!(
+            "{} files ({} over {LONG} bytes), {} events, {} bytes\n",
+            self.files, self.long, self.events, self.bytes
+        );
+        let mut row = |title: &str, entries: String| {
+            for line in format!("{title:TITLE$}{entries}").lines() {
+                table += line.trim_end();
+                table += "\n";
+            }
+        };
+        for (index, (name, ..)) in EVENTS.iter().enumerate() {
+            row(&format!("{name}: codes"), entries(of_event(&self.codes, index)));
+        }
+        for (index, (name, ..)) in EVENTS.iter().enumerate() {
+            let wakings = entries(of_event(&self.wakings, index));
+            if !wakings.is_empty() {
+                row(&format!("{name}: wakings"), wakings);
+            }
+        }
+        row("looks, quick rule", entries(self.quick_looks.iter()));
+        row("looks, plain rule", entries(self.plain_looks.iter()));
+        row("bad files", entries(self.bad.iter()));
+        table
+    }
+
+    /// What the rules know and no file showed.
+    pub fn missing(&self) -> Vec<String> {
+        let mut missing = Vec::new();
+        for (index, (name, codes, wakings)) in EVENTS.iter().enumerate() {
+            let lacking =
+                |counts: &Counts<(usize, i32)>, code: &i32| !counts.contains_key(&(index, *code));
+            let codes = codes.iter().filter(|code| lacking(&self.codes, code));
+            missing.extend(codes.map(|code| format!("{name} with code {code}")));
+            let wakings = wakings.iter().filter(|code| lacking(&self.wakings, code));
+            missing.extend(wakings.map(|code| format!("a waking with {code} by {name}")));
+        }
+        let bad = BAD.iter().filter(|code| !self.bad.contains_key(code));
+        missing.extend(bad.map(|code| format!("bad {code}")));
+        if self.long == 0 {
+            missing.push(format!("a file over {LONG} bytes"));
+        }
+        missing
+    }
+}
+
+fn add_all<K: Ord>(counts: &mut Counts<K>, others: Counts<K>) {
+    for (key, count) in others {
+        *counts.entry(key).or_default() += count;
+    }
+}
+
+fn of_event(counts: &Counts<(usize, i32)>, event: usize) -> impl Iterator<Item = (&i32, &u64)> {
+    counts
+        .iter()
+        .filter(move |((index, _), _)| *index == event)
+        .map(|((_, code), count)| (code, count))
+}
+
+/// Each code or number with how often it came, some to a line.
+fn entries<'a>(counts: impl Iterator<Item = (&'a i32, &'a u64)>) -> String {
+    let entries: Vec<String> =
+        counts.map(|(number, count)| format!("{number:>3}: {count:<7} ")).collect();
+    let lines: Vec<String> = entries.chunks(6).map(|some| some.concat()).collect();
+    lines.join(&format!("\n{:TITLE$}", ""))
+}

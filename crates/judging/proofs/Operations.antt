@@ -1,0 +1,43 @@
+-- The operations of an array, one at a time, as a loop over its bytes reads them.
+use mathlib.Core.Path.{_≡_}
+use mathlib.Core.Bool.{Bool, cond, _||_, _&&_}
+use mathlib.Core.List.{List, [], _∷_}
+use Prim.Native.Nat.{ℕ, suc, _+_, _*_, _-_, _/_, _<_}
+use native.Mathlib.Omega.{arith}
+use lib.Dec.{leb}
+use lib.ListN.{length}
+use Rattle.model.specs.declared.Set.{Set}
+use Rattle.model.specs.declared.Operation.{Operation}
+use Rattle.model.specs.Operation.{operationAt, operationsFrom, operationsOf, hasBit, isZero}
+use Rattle.model.specs.Marks.{bitOf}
+use Rattle.model.specs.Checks.{numberTooHigh, permitted}
+
+-- the operations from the i-th on
+abbrev pub rest : List ℕ → ℕ → List Operation
+rest bytes i = operationsFrom bytes (i * 6) (length bytes / 6 - i)
+
+module _ (bytes : List ℕ) where
+  pub all : rest bytes 0 ≡ operationsOf bytes
+  all = let e : length bytes / 6 - 0 ≡ length bytes / 6 = omega arith in rw e
+
+  pub first : (i : ℕ) → i < length bytes / 6 → rest bytes i ≡ operationAt bytes (i * 6) ∷ rest bytes (i + 1)
+  unfolding operationsFrom
+  first i h =
+      let e : length bytes / 6 - i ≡ suc (length bytes / 6 - (i + 1)) = omega arith in
+      let f : i * 6 + 6 ≡ (i + 1) * 6 = omega arith in
+      rw (e, f)
+
+  pub none : (i : ℕ) → i ≡ length bytes / 6 → rest bytes i ≡ []
+  unfolding operationsFrom
+  none i h = let e : length bytes / 6 - i ≡ 0 = omega arith in rw e
+
+-- ---- the tests on an array, one operation at a time: o is the i-th, and t what the test says of it
+
+module _ (bytes : List ℕ) (i : ℕ) (o : Operation) (h : i < length bytes / 6) (eo : o ≡ operationAt bytes (i * 6)) (t : Bool) where
+  pub high : (count : ℕ) → leb count (o .number) ≡ t → t || numberTooHigh count (rest bytes (i + 1)) ≡ numberTooHigh count (rest bytes i)
+  unfolding numberTooHigh
+  high count e = rw (first bytes i h, rw eo at e)
+
+  pub allowed : (process : ℕ) (set : Set) → hasBit (cond (isZero (o .amount)) (set .read) (set .alter)) (bitOf process) ≡ t → t && permitted process set (rest bytes (i + 1)) ≡ permitted process set (rest bytes i)
+  unfolding permitted
+  allowed process set e = rw (first bytes i h, rw eo at e)

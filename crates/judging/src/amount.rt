@@ -1,0 +1,80 @@
+// What an amount makes of a value and of an adjustment. Sums and magnitudes are taken in 32 bits, where none of them wraps:
+// the magnitude of -32,768 is 32,768.
+ghost use mathlib.Core.Path.{_≡_};
+ghost use Rattle.model.specs.Operation.{isZero, isNegative};
+ghost use Rattle.model.specs.Judge.{nextValue, nextAdjustment};
+ghost use Rattle.model.specs.Events.{cut as cutTo};
+use model::Next;
+use model::Undo;
+use model::VALUE_MAX;
+
+// The largest value, and the range of an adjustment, in 32 bits.
+pub const MOST: i32 = VALUE_MAX as i32;
+
+const LEAST: i32 = -MOST;
+
+pub fn is_zero(amount: i16) -> bool
+    ensures { λ r. ⌜ r ≡ isZero amount ⌝ }
+{
+    amount == 0
+}
+
+pub fn is_negative(amount: i16) -> bool
+    ensures { λ r. ⌜ r ≡ isNegative amount ⌝ }
+{
+    amount < 0
+}
+
+// The value with the amount added, or why there is none.
+pub fn next_value(value: u16, amount: i16) -> Next
+    ensures { λ r. ⌜ r ≡ nextValue value amount ⌝ }
+{
+    let old = value as i32;
+    let new = old + (amount as i32);
+    if 0 < amount {
+        if MOST < new {
+            Next::Over
+        } else {
+            Next::To(new as u16)
+        }
+    } else if amount < 0 {
+        let magnitude = 0 - (amount as i32);
+        if old < magnitude {
+            Next::Stop
+        } else {
+            Next::To(new as u16)
+        }
+    } else if value == 0 {
+        Next::To(value)
+    } else {
+        Next::Stop
+    }
+}
+
+// The adjustment with the amount subtracted, if it is in range.
+pub fn next_adjustment(adjustment: i16, amount: i16) -> Undo
+    ensures { λ r. ⌜ r ≡ nextAdjustment adjustment amount ⌝ }
+{
+    let new = (adjustment as i32) - (amount as i32);
+    if new < LEAST {
+        Undo::Out
+    } else if MOST < new {
+        Undo::Out
+    } else {
+        Undo::To(new as i16)
+    }
+}
+
+// The value with the adjustment added, cut to 0 to 32,767.
+pub fn cut(value: u16, adjustment: i16) -> u16
+    ensures { λ r. ⌜ r ≡ cutTo value adjustment ⌝ }
+{
+    let sum = (value as i32) + (adjustment as i32);
+    if sum < 0 {
+        0
+    } else if MOST < sum {
+        VALUE_MAX
+    } else {
+        sum as u16
+    }
+}

@@ -1,0 +1,175 @@
+-- What holds once the checks of an event apply to nothing.
+use Prim.Native.Nat.{ℕ, zero, suc, _+_, _/_, _%_, _≤_, _<_}
+use native.Mathlib.Nat.{mod-lt, zero-lt-suc}
+use native.Mathlib.Omega.{arith}
+use mathlib.Core.Path.{_≡_, refl}
+use mathlib.Core.Bool.{Bool, true, false, cond, _||_, _&&_}
+use mathlib.Core.List.{List, [], _∷_}
+use lib.Dec.{eqb, ltb, leb}
+use lib.ListN.{length}
+use lib.IntN.{ℤ, pos, negsuc, natAbs}
+use borrow.Author.Tests.{eqb-true, eqb-false, ltb-true, ltb-false, leb-true, leb-false, not-false}
+use Rattle.model.specs.declared.Set.{Set}
+use Rattle.model.specs.declared.Operation.{Operation}
+use Rattle.model.specs.Limits.{slots, semaphores, processes, valueMax, operationBytes, arrayBytes}
+use Rattle.model.specs.State.{State, Sleeper}
+use Rattle.model.specs.Operation.{operationAt, operationsFrom, operationsOf}
+use Rattle.model.specs.Checks.{check, live, slotOf, namesSet, noProcess, numberTooHigh, freeFrom, freeSlot, checkCreate, checkOperate, checkNumber, inRange, checkSetValue, checkRemove, checkProcess}
+use Rattle.model.specs.Events.{call}
+use Rattle.model.specs.Runs.{All, none, also}
+use Rattle.model.proofs.Lists.{first}
+use Rattle.model.proofs.Invariant.{Fits, Other, countAt}
+use Rattle.model.proofs.QueueLaws.{awake}
+
+-- ---- tests
+
+pub or-false : (x y : Bool) → x || y ≡ false → (x ≡ false) × (y ≡ false)
+or-false false y e = (refl, e)
+or-false true y e = (e, let z : _≡_ {A = ℕ} 0 1 = cc in absurd (omega arith))
+
+pub and-true : (x y : Bool) → x && y ≡ true → (x ≡ true) × (y ≡ true)
+and-true true y e = (refl, e)
+and-true false y e = (e, let z : _≡_ {A = ℕ} 0 1 = cc in absurd (omega arith))
+
+-- a check that does not apply leaves the later ones
+pub passes : (applies : Bool) (code later : ℕ) → 0 < code → check applies code later ≡ 0 → (applies ≡ false) × (later ≡ 0)
+passes false code later h e = (refl, e)
+passes true code later h e = absurd (omega arith)
+
+nonzero : (n : ℕ) → eqb n 0 ≡ false → 0 < n
+nonzero n e = omega (arith, eqb-false n 0 e)
+
+-- ---- processes, sets and numbers
+
+pub process-range : (p : ℕ) → noProcess p ≡ false → (1 ≤ p) × (p ≤ processes)
+unfolding noProcess
+process-range p e = let x : (eqb p 0 ≡ false) × (ltb processes p ≡ false) = or-false (eqb p 0) (ltb processes p) e in
+    (nonzero p (x .0), ltb-false processes p (x .1))
+
+pub record Named (sets : List Set) (i : ℤ) : Type 0 where
+  pub slot : slotOf i < slots
+  pub some : 0 < countAt sets (slotOf i)
+
+pub names-live : (sets : List Set) (i : ℤ) → namesSet sets i ≡ true → Named sets i
+unfolding namesSet slotOf
+names-live sets (pos i) e = record { slot = mod-lt i (zero-lt-suc 3); some = ltb-true 0 _ (and-true _ _ e .0) }
+names-live sets (negsuc i) e = let z : _≡_ {A = ℕ} 0 1 = cc in absurd (omega arith)
+
+pub numbers-below : (count : ℕ) (os : List Operation) → numberTooHigh count os ≡ false → All (λ (o : Operation). o .number < count) os
+unfolding numberTooHigh
+numbers-below count [] e = none
+numbers-below count (o ∷ os) e =
+    let x : (leb count (o .number) ≡ false) × (numberTooHigh count os ≡ false) = or-false (leb count (o .number)) (numberTooHigh count os) e in
+    also (leb-false count (o .number) (x .0)) (numbers-below count os (x .1))
+
+-- the set of a sleeper is live: its array has an operation
+pub alive : (sets : List Set) (s : Sleeper) → Fits sets s → 0 < countAt sets (s .slot)
+unfolding operationsFrom
+alive sets s f = go (length (s .array) / operationBytes) refl (f .numbers)
+  where
+    go : (n : ℕ) → length (s .array) / operationBytes ≡ n → All (λ (o : Operation). o .number < countAt sets (s .slot)) (operationsFrom (s .array) 0 n)
+        → 0 < countAt sets (s .slot)
+    go zero e h = absurd (omega (arith, f .some, f .whole))
+    go (suc n) e h = let x : operationAt (s .array) 0 .number < countAt sets (s .slot) = first h in omega arith
+
+-- ---- create
+
+-- the slot that is found is free, if it is one of those looked at
+free-from : (sets : List Set) (slot n : ℕ) → (freeFrom sets slot n ≤ slot + n) × (freeFrom sets slot n < slot + n → live sets (freeFrom sets slot n) ≡ false)
+unfolding freeFrom
+free-from sets slot zero = (omega arith, λ h. absurd (omega arith))
+free-from sets slot (suc n) = go (live sets slot) refl (free-from sets (slot + 1) n)
+  where
+    go : (b : Bool) → live sets slot ≡ b → (freeFrom sets (slot + 1) n ≤ slot + 1 + n) × (freeFrom sets (slot + 1) n < slot + 1 + n → live sets (freeFrom sets (slot + 1) n) ≡ false)
+        → (cond b (freeFrom sets (slot + 1) n) slot ≤ slot + suc n) × (cond b (freeFrom sets (slot + 1) n) slot < slot + suc n → live sets (cond b (freeFrom sets (slot + 1) n) slot) ≡ false)
+    go true e h = (omega (arith, h .0), λ k. h .1 (omega arith))
+    go false e h = (omega arith, λ k. e)
+
+pub record Creatable (s : State) (count : ℕ) : Type 0 where
+  pub some : 0 < count
+  pub fits : count ≤ semaphores
+  pub slot : freeSlot (s .sets) < slots
+  pub free : countAt (s .sets) (freeSlot (s .sets)) ≡ 0
+
+pub create-passes : (s : State) (count : ℕ) → checkCreate s count ≡ 0 → Creatable s count
+unfolding checkCreate
+create-passes s count e =
+    let a = passes _ 22 _ (zero-lt-suc _) e in
+    let b = or-false (eqb count 0) (ltb semaphores count) (a .0) in
+    let c = passes (eqb (freeSlot (s .sets)) slots) 28 0 (zero-lt-suc _) (a .1) in
+    let f = free-from (s .sets) 0 slots in
+    let lt : freeSlot (s .sets) < slots = omega (arith, f .0, eqb-false (freeSlot (s .sets)) slots (c .0)) in
+    record {
+      some = nonzero count (b .0);
+      fits = ltb-false semaphores count (b .1);
+      slot = lt;
+      free = omega (arith, ltb-false 0 (countAt (s .sets) (freeSlot (s .sets))) (f .1 (omega arith)));
+    }
+
+-- ---- operate
+
+pub record Operable (s : State) (p : ℕ) (i : ℤ) (bytes : List ℕ) : Type 0 where
+  pub fits : Fits (s .sets) (call p i bytes)
+  pub others : All (Other (call p i bytes)) (s .queue)
+
+pub operate-passes : (s : State) (p : ℕ) (i : ℤ) (bytes : List ℕ) → checkOperate s p i bytes ≡ 0 → Operable s p i bytes
+unfolding checkOperate
+operate-passes s p i bytes e =
+    let a = passes _ 3 _ (zero-lt-suc _) e in
+    let b = passes _ 16 _ (zero-lt-suc _) (a .1) in
+    let c = passes _ 22 _ (zero-lt-suc _) (b .1) in
+    let d = or-false (eqb (length bytes) 0) _ (c .0) in
+    let f = passes _ 7 _ (zero-lt-suc _) (c .1) in
+    let g = passes _ 22 _ (zero-lt-suc _) (f .1) in
+    let h = passes _ 27 _ (zero-lt-suc _) (g .1) in
+    let n : Named (s .sets) i = names-live (s .sets) i (not-false _ (g .0)) in
+    let r = process-range p (a .0) in
+    record {
+      fits = record {
+        process = r .0;
+        last = r .1;
+        slot = n .slot;
+        some = nonzero (length bytes) (d .0);
+        whole = eqb-true (length bytes % operationBytes) 0 (not-false _ (d .1));
+        short = ltb-false arrayBytes (length bytes) (f .0);
+        numbers = numbers-below (countAt (s .sets) (slotOf i)) (operationsOf bytes) (h .0);
+      };
+      others = awake p (s .queue) (b .0);
+    }
+
+-- ---- set value, query and remove
+
+pub record Numbered (s : State) (i : ℤ) (n : ℕ) : Type 0 where
+  pub slot : slotOf i < slots
+  pub number : n < countAt (s .sets) (slotOf i)
+
+pub number-passes : (s : State) (i : ℤ) (n : ℕ) → checkNumber s i n ≡ 0 → Numbered s i n
+unfolding checkNumber
+number-passes s i n e =
+    let a = passes _ 22 _ (zero-lt-suc _) e in
+    let b = passes _ 22 0 (zero-lt-suc _) (a .1) in
+    record { slot = names-live (s .sets) i (not-false _ (a .0)) .slot; number = leb-false (countAt (s .sets) (slotOf i)) n (b .0) }
+
+in-range : (v : ℤ) → inRange v ≡ true → natAbs v ≤ valueMax
+unfolding inRange
+in-range (pos v) e = leb-true v valueMax e
+in-range (negsuc v) e = let z : _≡_ {A = ℕ} 0 1 = cc in absurd (omega arith)
+
+pub record Assignable (s : State) (i : ℤ) (n : ℕ) (v : ℤ) : Type 0 where
+  pub numbered : Numbered s i n
+  pub value : natAbs v ≤ valueMax
+
+pub setValue-passes : (s : State) (i : ℤ) (n : ℕ) (v : ℤ) → checkSetValue s i n v ≡ 0 → Assignable s i n v
+unfolding checkSetValue
+setValue-passes s i n v e =
+    let a = passes _ 22 _ (zero-lt-suc _) e in
+    let b = passes _ 34 0 (zero-lt-suc _) (a .1) in
+    record { numbered = number-passes s i n (eqb-true (checkNumber s i n) 0 (not-false _ (a .0))); value = in-range v (not-false _ (b .0)) }
+
+pub remove-passes : (s : State) (i : ℤ) → checkRemove s i ≡ 0 → Named (s .sets) i
+unfolding checkRemove
+remove-passes s i e = names-live (s .sets) i (not-false _ (passes _ 22 0 (zero-lt-suc _) e .0))
+
+pub process-passes : (p : ℕ) → checkProcess p ≡ 0 → (1 ≤ p) × (p ≤ processes)
+unfolding checkProcess
+process-passes p e = process-range p (passes _ 3 0 (zero-lt-suc _) e .0)

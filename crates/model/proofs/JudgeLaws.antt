@@ -1,0 +1,200 @@
+-- Judging: it keeps sizes and ranges, and depends only on the values and adjustments of the semaphores that the array names.
+use Prim.Native.Nat.{ℕ, zero, suc, _+_, _-_, _≤_}
+use native.Mathlib.Omega.{arith}
+use mathlib.Core.Path.{_≡_, refl, sym, _∙_}
+use mathlib.Core.Bool.{Bool, true, false, cond}
+use mathlib.Core.List.{List, [], _∷_}
+use lib.Dec.{ltb, eqb}
+use lib.ListN.{length, getD, length-set}
+use lib.IntN.{ℤ, pos, negsuc, _-ℤ_}
+use lib.Signed.{ltZ}
+use borrow.Author.Tests.{ltb-false}
+use Rattle.model.specs.declared.Operation.{Operation}
+use Rattle.model.specs.declared.Next.{Next}
+use Rattle.model.specs.declared.Next.the-variants as next
+use Rattle.model.specs.declared.Undo.{Undo}
+use Rattle.model.specs.declared.Undo.the-variants as undo
+use Rattle.model.specs.declared.Outcome.{Outcome}
+use Rattle.model.specs.declared.Outcome.the-variants.{Done, Sleep, Again, Range}
+use Rattle.model.specs.declared.Copies.{Copies}
+use Rattle.model.specs.declared.Judged.{Judged}
+use Rattle.model.specs.Limits.{semaphores, valueMax}
+use Rattle.model.specs.Operation.{noWait, withUndo}
+use Rattle.model.specs.Judge.{nextValue, nextAdjustment, judged, withValue, undone, valued, step, goOn, judgeFrom}
+use Rattle.model.specs.Runs.{All}
+use Rattle.model.proofs.Lists.{rest, first, all-map, all-set, all-getD, set-alike}
+use Rattle.model.proofs.Invariant.{Ranged}
+
+-- whichever of the two a test picks
+pub either : {A : Type 0} (P : A → Type 0) (b : Bool) (x y : A) → P x → P y → P (cond b x y)
+either P true x y h k = h
+either P false x y h k = k
+
+-- ---- sizes and ranges
+
+-- copies have their sizes, and each number its range
+pub record Fine (c : Copies) : Type 0 where
+  pub values : length (c .values) ≡ semaphores
+  pub adjustments : length (c .adjustments) ≡ semaphores
+  pub small : All (λ (v : ℕ). v ≤ valueMax) (c .values)
+  pub ranged : All Ranged (c .adjustments)
+
+-- the value that an amount leads to is in range
+pub next-small : (v : ℕ) (z : ℤ) (x : ℕ) → v ≤ valueMax → nextValue v z ≡ next.To x → x ≤ valueMax
+unfolding nextValue
+next-small v (pos zero) x h e = go (eqb v 0) e
+  where
+    go : (b : Bool) → cond b (next.To v) next.Stop ≡ next.To x → x ≤ valueMax
+    go true f = let r : v ≡ x = cc in omega arith
+    go false f = let r : _≡_ {A = ℕ} 0 1 = cc in absurd (omega arith)
+next-small v (pos (suc k)) x h e = go (ltb valueMax (v + suc k)) refl e
+  where
+    go : (b : Bool) → ltb valueMax (v + suc k) ≡ b → cond b next.Over (next.To (v + suc k)) ≡ next.To x → x ≤ valueMax
+    go true g f = let r : _≡_ {A = ℕ} 0 1 = cc in absurd (omega arith)
+    go false g f = let r : v + suc k ≡ x = cc in omega (arith, ltb-false valueMax (v + suc k) g)
+next-small v (negsuc k) x h e = go (ltb v (suc k)) e
+  where
+    go : (b : Bool) → cond b next.Stop (next.To (v - suc k)) ≡ next.To x → x ≤ valueMax
+    go true f = let r : _≡_ {A = ℕ} 0 1 = cc in absurd (omega arith)
+    go false f = let r : v - suc k ≡ x = cc in omega arith
+
+-- a number that passes the two tests of an adjustment is in range
+within : (z : ℤ) → ltZ z (negsuc (valueMax - 1)) ≡ false → ltZ (pos valueMax) z ≡ false → Ranged z
+within (pos n) h k = ltb-false valueMax n k
+within (negsuc n) h k = let r : n ≤ 32766 = ltb-false 32766 n h in omega arith
+
+pub next-ranged : (a amount z : ℤ) → nextAdjustment a amount ≡ undo.To z → Ranged z
+unfolding nextAdjustment
+next-ranged a amount z e = go (ltZ (a -ℤ amount) (negsuc (valueMax - 1))) refl (ltZ (pos valueMax) (a -ℤ amount)) refl e
+  where
+    go : (b : Bool) → ltZ (a -ℤ amount) (negsuc (valueMax - 1)) ≡ b → (b′ : Bool) → ltZ (pos valueMax) (a -ℤ amount) ≡ b′
+        → cond b undo.Out (cond b′ undo.Out (undo.To (a -ℤ amount))) ≡ undo.To z → Ranged z
+    go true h b′ k f = let r : _≡_ {A = ℕ} 0 1 = cc in absurd (omega arith)
+    go false h true k f = let r : _≡_ {A = ℕ} 0 1 = cc in absurd (omega arith)
+    go false h false k f = let r : a -ℤ amount ≡ z = cc in rw r at (within (a -ℤ amount) h k)
+
+pub step-fine : (c : Copies) (o : Operation) (i : ℕ) → Fine c → Fine (step c o i .copies)
+unfolding step
+step-fine c o i f = value (nextValue (getD (c .values) (o .number) 0) (o .amount)) refl
+  where
+    valued-fine : (v : ℕ) → v ≤ valueMax → Fine (withValue c (o .number) v)
+    valued-fine v h =
+        record {
+          values = length-set (c .values) (o .number) v ∙ f .values;
+          adjustments = f .adjustments;
+          small = all-set (c .values) (o .number) v (f .small) h;
+          ranged = f .ranged;
+        }
+
+    adjusted : (v : ℕ) → v ≤ valueMax → (y : Undo) → nextAdjustment (getD (c .adjustments) (o .number) (pos 0)) (o .amount) ≡ y → Fine (undone c o i v y .copies)
+    adjusted v h undo.Out e = f
+    adjusted v h (undo.To a) e =
+        record {
+          values = length-set (c .values) (o .number) v ∙ f .values;
+          adjustments = length-set (c .adjustments) (o .number) a ∙ f .adjustments;
+          small = all-set (c .values) (o .number) v (f .small) h;
+          ranged = all-set (c .adjustments) (o .number) a (f .ranged) (next-ranged _ (o .amount) a e);
+        }
+
+    value : (x : Next) → nextValue (getD (c .values) (o .number) 0) (o .amount) ≡ x → Fine (valued c o i x .copies)
+    value next.Over e = f
+    value next.Stop e = either (λ (j : Judged). Fine (j .copies)) (noWait o) _ _ f f
+    value (next.To v) e =
+        let h : v ≤ valueMax = next-small (getD (c .values) (o .number) 0) (o .amount) v (all-getD (λ (v : ℕ). v ≤ valueMax) (c .values) (o .number) 0 (f .small) (omega arith)) e in
+        either (λ (j : Judged). Fine (j .copies)) (withUndo o) _ _ (adjusted v h _ refl) (valued-fine v h)
+
+-- what goes on leaves the copies of the rest, or those that the array began with
+goOn-fine : (start : Copies) (i : ℕ) (x : Outcome) (more : Judged) → Fine start → Fine (more .copies) → Fine (goOn start i x more .copies)
+unfolding goOn
+goOn-fine start i Done more f g = g
+goOn-fine start i Sleep more f g = f
+goOn-fine start i Again more f g = f
+goOn-fine start i Range more f g = f
+
+pub judge-fine : (start : Copies) (os : List Operation) (c : Copies) (i : ℕ) → Fine start → Fine c → Fine (judgeFrom start os c i .copies)
+unfolding judgeFrom
+judge-fine start [] c i f g = g
+judge-fine start (o ∷ os) c i f g = goOn-fine start i (step c o i .outcome) _ f (judge-fine start os (step c o i .copies) (i + 1) f (step-fine c o i g))
+
+-- ---- locality
+
+pub record SameSize (c c′ : Copies) : Type 0 where
+  pub values : length (c .values) ≡ length (c′ .values)
+  pub adjustments : length (c .adjustments) ≡ length (c′ .adjustments)
+
+-- two copies that an operation cannot tell apart
+pub record Alike (c c′ : Copies) (o : Operation) : Type 0 where
+  pub value : getD (c .values) (o .number) 0 ≡ getD (c′ .values) (o .number) 0
+  pub adjustment : getD (c .adjustments) (o .number) (pos 0) ≡ getD (c′ .adjustments) (o .number) (pos 0)
+
+-- an operation on two such copies: the same outcome, and what could not be told apart before cannot be now
+record Twin (c c′ : Copies) (j j′ : Judged) : Type 0 where
+  outcome : j .outcome ≡ j′ .outcome
+  size : SameSize (j .copies) (j′ .copies)
+  alike : (o : Operation) → Alike c c′ o → Alike (j .copies) (j′ .copies) o
+
+module _ (c c′ : Copies) (z : SameSize c c′) where
+  still : (x : Outcome) (i : ℕ) → Twin c c′ (judged x i c) (judged x i c′)
+  still x i = record { outcome = refl; size = z; alike = λ o h. h }
+
+  stored : (n v i : ℕ) → Twin c c′ (judged Done i (withValue c n v)) (judged Done i (withValue c′ n v))
+  stored n v i =
+      record {
+        outcome = refl;
+        size = record { values = length-set (c .values) n v ∙ z .values ∙ sym (length-set (c′ .values) n v); adjustments = z .adjustments };
+        alike = λ o h. record { value = set-alike 0 (c .values) (c′ .values) n v (o .number) (z .values) (h .value); adjustment = h .adjustment };
+      }
+
+  undone-twin : (o : Operation) (i v : ℕ) (y : Undo) → Twin c c′ (undone c o i v y) (undone c′ o i v y)
+  undone-twin o i v undo.Out = still Range i
+  undone-twin o i v (undo.To a) =
+      let s : Twin c c′ (judged Done i (withValue c (o .number) v)) (judged Done i (withValue c′ (o .number) v)) = stored (o .number) v i in
+      record {
+        outcome = refl;
+        size = record {
+          values = s .size .values;
+          adjustments = length-set (c .adjustments) (o .number) a ∙ z .adjustments ∙ sym (length-set (c′ .adjustments) (o .number) a);
+        };
+        alike = λ p h. record {
+          value = s .alike p h .value;
+          adjustment = set-alike (pos 0) (c .adjustments) (c′ .adjustments) (o .number) a (p .number) (z .adjustments) (h .adjustment);
+        };
+      }
+
+  step-twin : (o : Operation) (i : ℕ) → Alike c c′ o → Twin c c′ (step c o i) (step c′ o i)
+  unfolding step
+  step-twin o i h = rw (h .value) (go (nextValue (getD (c′ .values) (o .number) 0) (o .amount)))
+    where
+      waits : (b : Bool) → Twin c c′ (cond b (judged Again i c) (judged Sleep i c)) (cond b (judged Again i c′) (judged Sleep i c′))
+      waits true = still Again i
+      waits false = still Sleep i
+
+      takes : (v : ℕ) (y : Undo) (b : Bool) → Twin c c′ (cond b (undone c o i v y) (judged Done i (withValue c (o .number) v))) (cond b (undone c′ o i v y) (judged Done i (withValue c′ (o .number) v)))
+      takes v y true = undone-twin o i v y
+      takes v y false = stored (o .number) v i
+
+      go : (x : Next) → Twin c c′ (valued c o i x) (valued c′ o i x)
+      go next.Over = still Range i
+      go next.Stop = waits (noWait o)
+      go (next.To v) = rw (h .adjustment) (takes v (nextAdjustment (getD (c′ .adjustments) (o .number) (pos 0)) (o .amount)) (withUndo o))
+
+-- what goes on has one outcome, and decides at one position
+pub record Agreed (j j′ : Judged) : Type 0 where
+  pub outcome : j .outcome ≡ j′ .outcome
+  pub position : j .position ≡ j′ .position
+
+goOn-agreed : (start start′ : Copies) (i : ℕ) (x : Outcome) (more more′ : Judged) → Agreed more more′ → Agreed (goOn start i x more) (goOn start′ i x more′)
+unfolding goOn
+goOn-agreed start start′ i Done more more′ a = a
+goOn-agreed start start′ i Sleep more more′ a = record { outcome = refl; position = refl }
+goOn-agreed start start′ i Again more more′ a = record { outcome = refl; position = refl }
+goOn-agreed start start′ i Range more more′ a = record { outcome = refl; position = refl }
+
+pub judge-local : (start start′ : Copies) (os : List Operation) (c c′ : Copies) (i : ℕ) → SameSize c c′ → All (Alike c c′) os
+    → Agreed (judgeFrom start os c i) (judgeFrom start′ os c′ i)
+unfolding judgeFrom
+judge-local start start′ [] c c′ i z h = record { outcome = refl; position = refl }
+judge-local start start′ (o ∷ os) c c′ i z h =
+    let t : Twin c c′ (step c o i) (step c′ o i) = step-twin c c′ z o i (first h) in
+    rw (t .outcome)
+    (goOn-agreed start start′ i (step c′ o i .outcome) _ _ (judge-local start start′ os (step c o i .copies) (step c′ o i .copies) (i + 1) (t .size) (all-map (t .alike) (rest h))))

@@ -1,0 +1,35 @@
+-- Every row of the table of situations holds, by computing: in both engines.
+use mathlib.Core.Path.{refl}
+use Rattle.model.specs.declared.Engine.the-variants.{Plain, Quick}
+use Rattle.model.specs.Operation.{signed16, operationsFrom, isZero}
+use Rattle.model.specs.Judge.{nextValue, nextAdjustment, step, goOn, judgeFrom, codeOf, finishes}
+use Rattle.model.specs.Look.{valuesOf, adjustmentsOf, look, lastsAfter, applied, after}
+use Rattle.model.specs.Marks.{unmark, marked, namedBy, differing, mine, maskOf}
+use Rattle.model.specs.Waking.{without, finish, plainRound, quickRound, plain, quick, waker}
+use Rattle.model.specs.Checks.{identifierOf, slotOf, namesSet, noProcess, asleep, numberTooHigh, permitted, freeFrom, checkCreate, checkOperate, checkNumber, inRange, checkSetValue, checkRemove, checkProcess}
+use Rattle.model.specs.Events.{clearRows, cleared, clearNumber, assigned, cut, undoAll, exited, keep, endedWith, doCreate, operated, doOperate, doSetValue, doRemove, treat, treatFrom, touchedFrom, doExit, doQuery, event}
+use Rattle.model.specs.Runs.{run, All, none, also}
+use Rattle.model.specs.Situations.{Row, Shows, Holds, situation1, situation2, situation3, situation4, situation5, situation6, situation7, situation8, situation9, situation10, situation11, situation12, situation12b, situation13, table}
+
+both : (r : Row) → Shows Plain r → Shows Quick r → Holds r
+both r p q Plain = p
+both r p q Quick = q
+
+pub situations : All Holds table
+unfolding run event doCreate operated doOperate doSetValue doRemove treat treatFrom touchedFrom doExit doQuery identifierOf slotOf namesSet noProcess asleep numberTooHigh permitted freeFrom checkCreate checkOperate checkNumber inRange checkSetValue checkRemove checkProcess clearRows cleared clearNumber assigned cut undoAll exited keep endedWith waker plain quick plainRound quickRound finish without look lastsAfter applied after valuesOf adjustmentsOf judgeFrom goOn step nextValue nextAdjustment codeOf finishes operationsFrom signed16 isZero unmark marked namedBy differing mine maskOf
+situations =
+    also (both situation1 refl refl)
+    (also (both situation2 refl refl)
+    (also (both situation3 refl refl)
+    (also (both situation4 refl refl)
+    (also (both situation5 refl refl)
+    (also (both situation6 refl refl)
+    (also (both situation7 refl refl)
+    (also (both situation8 refl refl)
+    (also (both situation9 refl refl)
+    (also (both situation10 refl refl)
+    (also (both situation11 refl refl)
+    (also (both situation12 refl refl)
+    (also (both situation12b refl refl)
+    (also (both situation13 refl refl)
+    none)))))))))))))

@@ -1,0 +1,271 @@
+-- "Situations on the reviewer's desk": a table of events and of what each must show. proofs/Situations.antt proves every row.
+use Prim.Native.Nat.{ℕ, _+_, _-_, _/_, _%_}
+use mathlib.Core.Path.{_≡_}
+use mathlib.Core.List.{List, [], _∷_, _++_, map}
+use lib.ListN.{replicate}
+use lib.IntN.{ℤ, pos, negsuc}
+use Rattle.model.specs.declared.Engine.{Engine}
+use Rattle.model.specs.declared.Engine.the-variants.{Plain, Quick}
+use Rattle.model.specs.declared.Waking.{Waking}
+use Rattle.model.specs.State.{State, freeSet, freshTable, freshState}
+use Rattle.model.specs.Waking.{waking}
+use Rattle.model.specs.Events.{Event, create, operate, setValue, remove, exit, query, Result}
+use Rattle.model.specs.Runs.{run}
+
+-- ---- operations
+
+-- sixteen bits of a signed amount, and two bytes of sixteen bits
+abbrev bits16 : ℤ → ℕ
+bits16 (pos n) = n
+bits16 (negsuc n) = 65535 - n
+
+abbrev bytes2 : ℕ → List ℕ
+bytes2 n = n % 256 ∷ n / 256 ∷ []
+
+-- the six bytes of an operation: number, amount, flags
+abbrev op : ℕ → ℤ → ℕ → List ℕ
+op number amount flags = bytes2 number ++ bytes2 (bits16 amount) ++ bytes2 flags
+
+abbrev none : ℕ
+none = 0
+
+abbrev noWait : ℕ
+noWait = 2048
+
+abbrev undo : ℕ
+undo = 4096
+
+abbrev minus : ℕ → ℤ
+minus n = negsuc (n - 1)
+
+-- ---- rows
+
+-- an event, and what it shows: code, value, looks of the plain and of the quick rule, wakings
+pub record Step : Type 0 where
+  pub event : Event
+  pub code : ℤ
+  pub value : ℕ
+  pub plain : ℕ
+  pub quick : ℕ
+  pub wakings : List Waking
+
+-- the events of a situation, from a state on
+pub record Row : Type 0 where
+  pub start : State
+  pub steps : List Step
+
+-- what an engine shows of an event
+pub record Shown : Type 0 where
+  pub code : ℤ
+  pub value : ℕ
+  pub looks : ℕ
+  pub wakings : List Waking
+
+abbrev shown : Result → Shown
+shown r = record { code = r .answer .code; value = r .answer .value; looks = r .looks; wakings = r .wakings }
+
+abbrev expected : Engine → Step → Shown
+expected Plain s = record { code = s .code; value = s .value; looks = s .plain; wakings = s .wakings }
+expected Quick s = record { code = s .code; value = s .value; looks = s .quick; wakings = s .wakings }
+
+-- an engine shows what the row says
+abbrev pub Shows : Engine → Row → Type 0
+Shows engine r = map shown (run engine (r .start) (map (λ (s : Step). s .event) (r .steps)) .results) ≡ map (expected engine) (r .steps)
+
+-- .. and so does the other
+abbrev pub Holds : Row → Type 0
+Holds r = (engine : Engine) → Shows engine r
+
+-- ---- the table
+
+-- an event that shows a code; a value with code 0; looks and wakings with code 0
+abbrev gives : Event → ℤ → Step
+gives e code = record { event = e; code = code; value = 0; plain = 0; quick = 0; wakings = [] }
+
+abbrev tells : Event → ℕ → Step
+tells e value = record { event = e; code = pos 0; value = value; plain = 0; quick = 0; wakings = [] }
+
+abbrev wakes : Event → ℕ → ℕ → List Waking → Step
+wakes e plain quick wakings = record { event = e; code = pos 0; value = 0; plain = plain; quick = quick; wakings = wakings }
+
+abbrev done : ℤ
+done = pos 0
+
+abbrev asleep : ℤ
+asleep = minus 1
+
+-- on a fresh host, a set with so many semaphores and all permissions, whose identifier is 0
+abbrev fresh : ℕ → List Step → Row
+fresh count steps = record { start = freshState; steps = tells (create count 255 255) 0 ∷ steps }
+
+-- the one set of these rows
+abbrev set0 : ℤ
+set0 = pos 0
+
+-- 1: value 0, array +1, -1 on it: done, value 0. Array -1, +1: asleep.
+abbrev pub situation1 : Row
+situation1 =
+    fresh 1
+    (gives (operate 1 set0 (op 0 (pos 1) none ++ op 0 (minus 1) none)) done
+    ∷ tells (query set0 0) 0
+    ∷ gives (operate 1 set0 (op 0 (minus 1) none ++ op 0 (pos 1) none)) asleep
+    ∷ [])
+
+-- 2: 32,766 and +1 gives 32,767; once more: 34.
+abbrev pub situation2 : Row
+situation2 =
+    fresh 1
+    (gives (setValue set0 0 (pos 32766)) done
+    ∷ gives (operate 1 set0 (op 0 (pos 1) none)) done
+    ∷ tells (query set0 0) 32767
+    ∷ gives (operate 1 set0 (op 0 (pos 1) none)) (pos 34)
+    ∷ tells (query set0 0) 32767
+    ∷ [])
+
+-- 3: 32,767 and -32,768 with IPC_NOWAIT: 11; without: asleep.
+abbrev pub situation3 : Row
+situation3 =
+    fresh 1
+    (gives (setValue set0 0 (pos 32767)) done
+    ∷ gives (operate 1 set0 (op 0 (minus 32768) noWait)) (pos 11)
+    ∷ gives (operate 1 set0 (op 0 (minus 32768) none)) asleep
+    ∷ [])
+
+-- 4: process 1 does +3 with undo on 0, process 2 does -2, 1 exits: value 0.
+abbrev pub situation4 : Row
+situation4 =
+    fresh 1
+    (gives (operate 1 set0 (op 0 (pos 3) undo)) done
+    ∷ gives (operate 2 set0 (op 0 (minus 2) none)) done
+    ∷ gives (exit 1) done
+    ∷ tells (query set0 0) 0
+    ∷ [])
+
+-- 5: value 0, -10 with undo after +10 without; another adds 32,765; exit: 32,767.
+abbrev pub situation5 : Row
+situation5 =
+    fresh 1
+    (gives (operate 1 set0 (op 0 (pos 10) none)) done
+    ∷ gives (operate 1 set0 (op 0 (minus 10) undo)) done
+    ∷ gives (operate 2 set0 (op 0 (pos 32765) none)) done
+    ∷ gives (exit 1) done
+    ∷ tells (query set0 0) 32767
+    ∷ [])
+
+-- 6: value 5, -5 with undo, set value 1, exit: value 1.
+abbrev pub situation6 : Row
+situation6 =
+    fresh 1
+    (gives (setValue set0 0 (pos 5)) done
+    ∷ gives (operate 1 set0 (op 0 (minus 5) undo)) done
+    ∷ gives (setValue set0 0 (pos 1)) done
+    ∷ gives (exit 1) done
+    ∷ tells (query set0 0) 1
+    ∷ [])
+
+-- 7: asleep on (0,+5),(1,-1) with values 0; set value of 0 to 32,765: woken with 34.
+abbrev pub situation7 : Row
+situation7 =
+    fresh 2
+    (gives (operate 1 set0 (op 0 (pos 5) none ++ op 1 (minus 1) none)) asleep
+    ∷ wakes (setValue set0 0 (pos 32765)) 1 1 (waking 1 (pos 34) ∷ [])
+    ∷ [])
+
+-- 8: asleep on (0,0,IPC_NOWAIT),(1,-1); set value of 0 to 1: woken with 11.
+abbrev pub situation8 : Row
+situation8 =
+    fresh 2
+    (gives (operate 1 set0 (op 0 (pos 0) noWait ++ op 1 (minus 1) none)) asleep
+    ∷ wakes (setValue set0 0 (pos 1)) 1 1 (waking 1 (pos 11) ∷ [])
+    ∷ [])
+
+-- 9: +32,767 with undo on 0, another process -1, then +1 with undo: 34.
+abbrev pub situation9 : Row
+situation9 =
+    fresh 1
+    (gives (operate 1 set0 (op 0 (pos 32767) undo)) done
+    ∷ gives (operate 2 set0 (op 0 (minus 1) none)) done
+    ∷ gives (operate 1 set0 (op 0 (pos 1) undo)) (pos 34)
+    ∷ [])
+
+-- 10: an older sleeper wants 2, a newer 1, value becomes 1: the newer is woken; 3 looks under each rule.
+abbrev pub situation10 : Row
+situation10 =
+    fresh 1
+    (gives (operate 1 set0 (op 0 (minus 2) none)) asleep
+    ∷ gives (operate 2 set0 (op 0 (minus 1) none)) asleep
+    ∷ wakes (operate 3 set0 (op 0 (pos 1) none)) 3 3 (waking 2 (pos 0) ∷ [])
+    ∷ [])
+
+-- 11: eight sleepers, number j (process j + 1) on (j,-1),(j-1,+1), number 0 on (0,-1) alone, in order 0 to 7. Set value of 7 to 1
+-- wakes all, 7 first: 36 plain looks, 8 quick.
+abbrev link : ℕ → Step
+link j = gives (operate (j + 1) set0 (op j (minus 1) none ++ op (j - 1) (pos 1) none)) asleep
+
+abbrev pub situation11 : Row
+situation11 =
+    fresh 8
+    (gives (operate 1 set0 (op 0 (minus 1) none)) asleep
+    ∷ link 1
+    ∷ link 2
+    ∷ link 3
+    ∷ link 4
+    ∷ link 5
+    ∷ link 6
+    ∷ link 7
+    ∷ wakes (setValue set0 7 (pos 1)) 36 8 (map (λ (p : ℕ). waking p (pos 0)) (8 ∷ 7 ∷ 6 ∷ 5 ∷ 4 ∷ 3 ∷ 2 ∷ 1 ∷ []))
+    ∷ [])
+
+-- 12: slot 0 with identifier 0, sleepers 3 and 5, removed: 3=43 5=43; the next create gives 4; identifier 0 is 22.
+abbrev pub situation12 : Row
+situation12 =
+    fresh 1
+    (gives (operate 3 set0 (op 0 (minus 1) none)) asleep
+    ∷ gives (operate 5 set0 (op 0 (minus 1) none)) asleep
+    ∷ wakes (remove set0) 0 0 (waking 3 (pos 43) ∷ waking 5 (pos 43) ∷ [])
+    ∷ tells (create 1 255 255) 4
+    ∷ gives (query set0 0) (pos 22)
+    ∷ [])
+
+-- Identifier 262,140 removed: the next in that slot is 0. (A set in slot 0 that was removed 65,535 times before.)
+abbrev pub situation12b : Row
+situation12b =
+    record {
+      start = record {
+        sets = record { generation = 65535; count = 1; read = 255; alter = 255 } ∷ replicate 3 (freeSet 0);
+        table = freshTable;
+        queue = [];
+      };
+      steps = gives (remove (pos 262140)) done ∷ tells (create 1 255 255) 0 ∷ [];
+    }
+
+-- 13: eight operations are judged, nine are 7; number 7 in a set of 8 is judged, 8 is 27.
+abbrev four : List ℕ
+four = op 7 (pos 1) none ++ op 7 (pos 1) none ++ op 7 (pos 1) none ++ op 7 (pos 1) none
+
+abbrev pub situation13 : Row
+situation13 =
+    fresh 8
+    (gives (operate 1 set0 (four ++ four)) done
+    ∷ tells (query set0 7) 8
+    ∷ gives (operate 1 set0 (four ++ four ++ op 7 (pos 1) none)) (pos 7)
+    ∷ gives (operate 1 set0 (op 8 (pos 1) none)) (pos 27)
+    ∷ [])
+
+abbrev pub table : List Row
+table =
+    situation1
+    ∷ situation2
+    ∷ situation3
+    ∷ situation4
+    ∷ situation5
+    ∷ situation6
+    ∷ situation7
+    ∷ situation8
+    ∷ situation9
+    ∷ situation10
+    ∷ situation11
+    ∷ situation12
+    ∷ situation12b
+    ∷ situation13
+    ∷ []

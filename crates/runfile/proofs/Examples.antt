@@ -1,0 +1,62 @@
+-- Small files, computed: the whole example of document 01, and one file of each code.
+use mathlib.Core.Path.{_≡_, refl}
+use mathlib.Core.List.{[], _∷_}
+use lib.IntN.{pos, negsuc}
+use Rattle.model.specs.Events.{create, operate, setValue}
+use Rattle.runfile.specs.Fields.{wordAt, signed32}
+use Rattle.runfile.specs.Table.{countOf, entriesFrom, chains}
+use Rattle.runfile.specs.Body.{sizeOf, sizeAt, operationsAt, eventAt, bodyCode}
+use Rattle.runfile.specs.File.{fileOf, eventsOf, bad, good}
+
+-- "Whole example, 44 bytes"
+whole : fileOf
+    (3 ∷ 0
+    ∷ 14 ∷ 0 ∷ 4 ∷ 0
+    ∷ 18 ∷ 0 ∷ 13 ∷ 0
+    ∷ 31 ∷ 0 ∷ 13 ∷ 0
+    ∷ 1 ∷ 1 ∷ 255 ∷ 255
+    ∷ 2 ∷ 1 ∷ 0 ∷ 0 ∷ 0 ∷ 0 ∷ 1 ∷ 0 ∷ 0 ∷ 255 ∷ 255 ∷ 0 ∷ 0
+    ∷ 2 ∷ 2 ∷ 0 ∷ 0 ∷ 0 ∷ 0 ∷ 1 ∷ 0 ∷ 0 ∷ 1 ∷ 0 ∷ 0 ∷ 0 ∷ [])
+    ≡ good
+    (create 1 255 255
+    ∷ operate 1 (pos 0) (0 ∷ 0 ∷ 255 ∷ 255 ∷ 0 ∷ 0 ∷ [])
+    ∷ operate 2 (pos 0) (0 ∷ 0 ∷ 1 ∷ 0 ∷ 0 ∷ 0 ∷ [])
+    ∷ [])
+unfolding wordAt signed32 countOf entriesFrom chains sizeOf sizeAt operationsAt eventAt bodyCode fileOf eventsOf
+whole = refl
+
+-- "Two zero bytes are a good file"
+none : fileOf (0 ∷ 0 ∷ []) ≡ good []
+unfolding countOf entriesFrom chains fileOf eventsOf
+none = refl
+
+-- an identifier and a value below zero
+negative : fileOf (1 ∷ 0 ∷ 6 ∷ 0 ∷ 11 ∷ 0 ∷ 3 ∷ 255 ∷ 255 ∷ 255 ∷ 255 ∷ 2 ∷ 1 ∷ 0 ∷ 0 ∷ 0 ∷ 128 ∷ [])
+    ≡ good (setValue (negsuc 0) 258 (negsuc 2147483647) ∷ [])
+unfolding wordAt signed32 countOf entriesFrom chains sizeOf sizeAt operationsAt eventAt bodyCode fileOf eventsOf
+negative = refl
+
+-- the table cut off; a body one byte late; a byte too many; an unknown kind; no body, and one too short for its kind
+table-cut : fileOf (1 ∷ 0 ∷ 6 ∷ 0 ∷ 2 ∷ []) ≡ bad 201
+unfolding countOf fileOf
+table-cut = refl
+
+one-late : fileOf (1 ∷ 0 ∷ 7 ∷ 0 ∷ 2 ∷ 0 ∷ 6 ∷ 1 ∷ []) ≡ bad 202
+unfolding countOf entriesFrom chains fileOf
+one-late = refl
+
+one-more : fileOf (0 ∷ 0 ∷ 0 ∷ []) ≡ bad 202
+unfolding countOf entriesFrom chains fileOf
+one-more = refl
+
+unknown : fileOf (1 ∷ 0 ∷ 6 ∷ 0 ∷ 2 ∷ 0 ∷ 8 ∷ 1 ∷ []) ≡ bad 203
+unfolding countOf entriesFrom chains sizeOf sizeAt bodyCode fileOf eventsOf
+unknown = refl
+
+empty : fileOf (1 ∷ 0 ∷ 6 ∷ 0 ∷ 0 ∷ 0 ∷ []) ≡ bad 204
+unfolding countOf entriesFrom chains bodyCode fileOf eventsOf
+empty = refl
+
+too-short : fileOf (1 ∷ 0 ∷ 6 ∷ 0 ∷ 6 ∷ 0 ∷ 2 ∷ 1 ∷ 0 ∷ 0 ∷ 0 ∷ 0 ∷ []) ≡ bad 204
+unfolding countOf entriesFrom chains sizeOf sizeAt bodyCode fileOf eventsOf
+too-short = refl

@@ -1,0 +1,9 @@
+-- Laws that the proofs of several functions cite.
+pub mod TableLaws
+pub mod TableOperations
+pub mod TableUndo
+pub mod LineLaws
+pub mod LineRemoval
+pub mod PartsLaws
+pub mod WakingLoops
+pub mod QuickLoops

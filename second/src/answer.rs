@@ -1,0 +1,88 @@
+//! What an event returns.
+
+use crate::errno::Errno;
+use crate::process::{Process, PROCESSES};
+
+/// The code of a call that sleeps.
+pub const ASLEEP: i32 = -1;
+
+/// The answer to one event.
+#[derive(Clone, Copy, Debug)]
+pub enum Answer {
+    Event(Report),
+    Query(State),
+}
+
+/// The answer to every event but a query. The default is "done", with nothing else to say.
+#[derive(Clone, Copy, Debug, Default)]
+pub struct Report {
+    pub code: i32,
+    pub value: i32,
+    pub looks: u32,
+    pub wakings: Wakings,
+}
+
+/// The answer to a query; the two wait counts are the numbers of ones in their masks.
+#[derive(Clone, Copy, Debug, Default)]
+pub struct State {
+    pub code: i32,
+    pub value: i32,
+    pub last: u8,
+    pub for_increase: u8,
+    pub for_zero: u8,
+}
+
+/// A sleeper that an event finished: its process number and the code it ended with.
+#[derive(Clone, Copy, Debug, Default)]
+pub struct Waking {
+    pub process: u8,
+    pub code: u8,
+}
+
+/// The wakings of one event, in order. No process is woken twice in an event.
+#[derive(Clone, Copy, Debug, Default)]
+pub struct Wakings {
+    list: [Waking; PROCESSES],
+    length: usize,
+}
+
+impl Answer {
+    pub fn code(&self) -> i32 {
+        match self {
+            Answer::Event(report) => report.code,
+            Answer::Query(state) => state.code,
+        }
+    }
+}
+
+impl From<Result<Report, Errno>> for Answer {
+    fn from(result: Result<Report, Errno>) -> Answer {
+        Answer::Event(result.unwrap_or_else(|errno| Report::with_code(errno.number().into())))
+    }
+}
+
+impl From<Result<State, Errno>> for Answer {
+    fn from(result: Result<State, Errno>) -> Answer {
+        Answer::Query(
+            result
+                .unwrap_or_else(|errno| State { code: errno.number().into(), ..State::default() }),
+        )
+    }
+}
+
+impl Report {
+    pub(crate) fn with_code(code: i32) -> Report {
+        Report { code, ..Report::default() }
+    }
+}
+
+impl Wakings {
+    pub(crate) fn push(&mut self, process: Process, code: u8) {
+        self.list[self.length] = Waking { process: process.number(), code };
+        self.length += 1;
+    }
+
+    pub fn as_slice(&self) -> &[Waking] {
+        &self.list[..self.length]
+    }
+}

@@ -1,0 +1,88 @@
+//! The sleeping calls of all sets, oldest first.
+
+use crate::judge::Array;
+use crate::process::{Process, PROCESSES};
+
+/// A call that sleeps.
+#[derive(Clone, Copy, Debug, Default)]
+pub struct Sleeper {
+    /// The slot of its set.
+    pub slot: usize,
+    pub array: Array,
+    /// The mask of the semaphores its array names.
+    pub names: u8,
+}
+
+#[derive(Clone, Debug)]
+pub struct Queue {
+    /// The processes asleep, in the order in which they went to sleep.
+    order: Vec<Process>,
+    /// The same as a mask.
+    asleep: u8,
+    /// Each process's call; it counts only while the process is asleep.
+    calls: [Sleeper; PROCESSES],
+}
+
+impl Queue {
+    pub fn new() -> Queue {
+        Queue {
+            order: Vec::with_capacity(PROCESSES),
+            asleep: 0,
+            calls: [Sleeper::default(); PROCESSES],
+        }
+    }
+
+    /// The mask of the processes asleep.
+    pub fn asleep(&self) -> u8 {
+        self.asleep
+    }
+
+    pub fn push(&mut self, process: Process, sleeper: Sleeper) {
+        self.order.push(process);
+        self.asleep |= process.bit();
+        self.calls[process.index()] = sleeper;
+    }
+
+    /// Takes the process out; says whether it was asleep.
+    pub fn take_out(&mut self, process: Process) -> bool {
+        let was_asleep = self.asleep & process.bit() != 0;
+        if was_asleep {
+            self.order.retain(|&other| other != process);
+            self.asleep &= !process.bit();
+        }
+        was_asleep
+    }
+
+    /// The process at this place of the order, 0 being the oldest.
+    pub fn at(&self, place: usize) -> Option<Process> {
+        self.order.get(place).copied()
+    }
+
+    pub fn call(&self, process: Process) -> &Sleeper {
+        &self.calls[process.index()]
+    }
+
+    /// The sleepers of one set, oldest first.
+    pub fn of_set(&self, slot: usize) -> impl Iterator<Item = (Process, &Sleeper)> {
+        self.order
+            .iter()
+            .map(move |&process| (process, self.call(process)))
+            .filter(move |(_, sleeper)| sleeper.slot == slot)
+    }
+
+    pub fn take_oldest_of_set(&mut self, slot: usize) -> Option<Process> {
+        let (oldest, _) = self.of_set(slot).next()?;
+        self.take_out(oldest);
+        Some(oldest)
+    }
+
+    /// The sleepers of one set that name a semaphore of the mask, oldest first.
+    pub fn naming(&self, slot: usize, mask: u8) -> impl Iterator<Item = (Process, &Sleeper)> {
+        self.of_set(slot).filter(move |(_, sleeper)| sleeper.names & mask != 0)
+    }
+
+    /// The marks of those who name a touched semaphore of the set, as a mask.
+    pub fn marks(&self, slot: usize, touched: u8) -> u8 {
+        self.naming(slot, touched).fold(0, |marks, (process, _)| marks | process.bit())
+    }
+}

@@ -1,0 +1,95 @@
+//! Good and bad run files, byte by byte.
+
+use second::write::{exit, operate, query, remove, run_file, set_value, signal};
+use second::Rule;
+
+use crate::{create, text};
+
+fn line(file: &[u8]) -> String {
+    text(file, Rule::Quick)
+}
+
+#[test]
+fn the_whole_example_of_44_bytes() {
+    let file = [
+        0x03, 0x00, 0x0E, 0x00, 0x04, 0x00, 0x12, 0x00, 0x0D, 0x00, 0x1F, 0x00, 0x0D, 0x00, 0x01,
+        0x01, 0xFF, 0xFF, 0x02, 0x01, 0x00, 0x00, 0x00, 0x00, 0x01, 0x00, 0x00, 0xFF, 0xFF, 0x00,
+        0x00, 0x02, 0x02, 0x00, 0x00, 0x00, 0x00, 0x01, 0x00, 0x00, 0x01, 0x00, 0x00, 0x00,
+    ];
+    assert_eq!(file.len(), 44);
+    for rule in [Rule::Quick, Rule::Plain] {
+        assert_eq!(text(&file, rule), "events 3\n0 0 0 0\n1 -1 0 0\n2 0 0 1 1=0\n");
+    }
+}
+
+#[test]
+fn two_zero_bytes_are_good() {
+    assert_eq!(line(&[0, 0]), "events 0\n");
+}
+
+#[test]
+fn head_or_table_cut_off_or_too_long() {
+    let good = run_file(&[create(), exit(1)]);
+    for length in 0..10 {
+        assert_eq!(line(&good[..length]), "bad 201\n", "{length} bytes");
+    }
+    assert_eq!(line(&[0; 65_536]), "bad 201\n");
+    assert_eq!(line(&[0; 65_535]), "bad 202\n");
+}
+
+#[test]
+fn offsets_and_end() {
+    let good = run_file(&[create(), exit(1)]);
+    for place in [2, 4, 6, 8] {
+        for step in [1, 255] {
+            let mut file = good.clone();
+            file[place] = file[place].wrapping_add(step);
+            assert_eq!(line(&file), "bad 202\n", "byte {place} changed by {step}");
+        }
+    }
+    assert_eq!(line(&good[..15]), "bad 202\n");
+    assert_eq!(line(&[&good[..], &[0]].concat()), "bad 202\n");
+    assert_eq!(line(&[0, 0, 0]), "bad 202\n");
+    // 10 + 65,535 is 9 modulo 65,536 only.
+    assert_eq!(line(&[2, 0, 10, 0, 255, 255, 9, 0, 3, 0, 5, 1]), "bad 202\n");
+}
+
+#[test]
+fn bodies() {
+    assert_eq!(line(&run_file(&[vec![]])), "bad 204\n");
+    for kind in (0..=0).chain(8..=255) {
+        assert_eq!(line(&run_file(&[vec![kind, 1]])), "bad 203\n", "kind {kind}");
+    }
+    let good = [
+        create(),
+        operate(1, 0, &[(0, 1, 0)]),
+        set_value(0, 0, 0),
+        remove(0),
+        signal(1),
+        exit(1),
+        query(0, 0),
+    ];
+    for body in good {
+        assert_eq!(line(&run_file(&[body[..body.len() - 1].to_vec()])), "bad 204\n");
+        assert_eq!(line(&run_file(&[[&body[..], &[0]].concat()])), "bad 204\n");
+    }
+}
+
+/// The first bad event decides, and offsets come before all bodies.
+#[test]
+fn order_of_the_checks() {
+    assert_eq!(line(&run_file(&[exit(1), vec![], vec![8]])), "bad 204\n");
+    assert_eq!(line(&run_file(&[exit(1), vec![8], vec![]])), "bad 203\n");
+    let mut file = run_file(&[vec![8], vec![]]);
+    file.push(0);
+    assert_eq!(line(&file), "bad 202\n");
+}
+
+#[test]
+fn any_number_of_operations_with_the_matching_length_is_a_good_file() {
+    for number in [0, 9, 255] {
+        let code = if number == 0 { 22 } else { 7 };
+        let file = run_file(&[operate(1, 0, &vec![(0, 0, 0); number])]);
+        assert_eq!(line(&file), format!("events 1\n0 {code} 0 0\n"));
+    }
+}
