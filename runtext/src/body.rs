@@ -56,18 +56,17 @@ fn numbered(kind: u8, identifier: i32, number: u16) -> Vec<u8> {
 pub fn decode(body: &[u8]) -> Result<Event, Refusal> {
     let length = length_wanted(body)?;
     if body.len() != length {
-        let words = format!("a body of kind {} has {length} bytes here, not {}", body[0], body.len());
+        let words =
+            format!("a body of kind {} has {length} bytes here, not {}", body[0], body.len());
         return Err(Refusal { code: 204, words });
     }
     let mut fields = Fields(&body[1..]);
     Ok(match body[0] {
         CREATE => Event::Create { count: fields.u8(), read: fields.u8(), alter: fields.u8() },
         OPERATE => operate(&mut fields),
-        SET_VALUE => Event::SetValue {
-            identifier: fields.i32(),
-            number: fields.u16(),
-            value: fields.i32(),
-        },
+        SET_VALUE => {
+            Event::SetValue { identifier: fields.i32(), number: fields.u16(), value: fields.i32() }
+        }
         REMOVE => Event::Remove { identifier: fields.i32() },
         SIGNAL => Event::Signal { process: fields.u8() },
         EXIT => Event::Exit { process: fields.u8() },

@@ -48,7 +48,7 @@ impl<'a> Word<'a> {
 }
 
 /// The words of a line that are still to be read.
-#[derive(Clone, Copy, Debug)]
+#[derive(Clone, Debug)]
 pub struct Words<'a> {
     rest: &'a str,
     column: usize,
@@ -86,7 +86,7 @@ impl<'a> Words<'a> {
 
     /// What stands behind `name` and `=`, if that comes next.
     pub fn option(&mut self, name: &str) -> Option<Word<'a>> {
-        let mut ahead = *self;
+        let mut ahead = self.clone();
         let (first, value) = ahead.next()?.split('=');
         let value = value.filter(|_| first.text == name)?;
         *self = ahead;

@@ -154,10 +154,18 @@ module _ (file : List ℕ) (h : codeOfFile file ≡ 0) where
           let f = first-fine (bodyCode file (e .offset) (e .size)) (eventAt file (e .offset)) (eventsOf file es) k in
           rw (f .0, listed es (f .1))
 
--- a file with events has the code 0: good exactly when 0
+-- good exactly when the code is 0: events give 0, and any other code refuses the file
 pub good-code : (file : List ℕ) (es : List Event) → fileOf file ≡ good es → codeOfFile file ≡ 0
 unfolding codeOf
 good-code file es e = ap codeOf e
+
+pub bad-code : (file : List ℕ) → (codeOfFile file ≡ 0 → ⊥) → fileOf file ≡ bad (codeOfFile file)
+unfolding codeOf
+bad-code file h = by (fileOf file) h
+  where
+    by : (f : File) → (codeOf f ≡ 0 → ⊥) → f ≡ bad (codeOf f)
+    by (bad code) h = refl
+    by (good es) h = absurd (h refl)
 
 -- ---- a turn of the walk, with k of n bodies passed
 

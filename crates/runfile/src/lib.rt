@@ -4,7 +4,7 @@
 // bodies are then read in place, from the end of the table on, each by its fields and then on by its size. proofs/Walk.antt
 // has what such a walk goes by. Positions are sums in full width, and no function here asks anything of its caller.
 ghost use mathlib.Core.Path.{_≡_};
-ghost use Prim.Native.Nat.{_+_, _*_, _≤_};
+ghost use Prim.Native.Nat.{_≤_};
 ghost use lib.ListN.{length};
 ghost use Rattle.model.specs.Operation.{two};
 ghost use Rattle.runfile.specs.Fields.{byteAt, halfAt, four, wordAt, signed32, signedAt};

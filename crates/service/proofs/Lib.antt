@@ -7,3 +7,12 @@ pub mod LineRemoval
 pub mod PartsLaws
 pub mod WakingLoops
 pub mod QuickLoops
+pub mod SetLoops
+pub mod EventLaws
+pub mod CheckLaws
+pub mod EventSteps
+pub mod QueryLaws
+pub mod ToldLaws
+pub mod SettingLaws
+pub mod ExitingLaws
+pub mod OperatingLaws

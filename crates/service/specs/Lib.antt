@@ -2,3 +2,5 @@
 pub mod Table
 pub mod Line
 pub mod Parts
+pub mod Told
+pub mod Query

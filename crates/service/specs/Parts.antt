@@ -8,6 +8,7 @@ use lib.Dec.{eqb}
 use lib.ListN.{length, take, drop, getD}
 use lib.IntN.{ℤ}
 use Rattle.model.specs.declared.Set.{Set}
+use Rattle.model.specs.declared.Engine.{Engine}
 use Rattle.model.specs.declared.Place.{Place}
 use Rattle.model.specs.declared.Line.{Line}
 use Rattle.model.specs.declared.Judged.{Judged}
@@ -17,7 +18,8 @@ use Rattle.model.specs.State.{Table, Sleeper}
 use Rattle.model.specs.Operation.{hasBit}
 use Rattle.model.specs.Look.{look}
 use Rattle.model.specs.Marks.{bitOf}
-use Rattle.model.specs.Waking.{World, Ended, finish, plain, quick}
+use Rattle.model.specs.Waking.{World, Ended, finish, plain, quick, waker}
+use Rattle.model.specs.Events.{treatFrom}
 use Rattle.model.specs.Layout.{noPlace, lineOf, arraysOf, wakingsOf, tableOf, queueOf, sleeperAt}
 use Rattle.model.proofs.Invariant.{countAt}
 use Rattle.model.proofs.Calm.{Calm}
@@ -118,6 +120,13 @@ pub record Peopled (line : Line) : Type 0 where
   pub long : length (line .places) ≡ processes
   pub few : line .asleep ≤ processes
   pub process : (i : ℕ) → i < line .asleep → IsProcess (getD (line .places) i noPlace .process)
+
+-- what an engine leaves of parts once it has treated a slot with these touched semaphores, or the live slots from one on
+abbrev pub treated : Engine → ℕ → ℕ → Parts → ℕ → Left
+treated engine slot touched p looks = leftOf (waker engine slot touched (worldOf p) looks)
+
+abbrev pub treatedFrom : Engine → List Set → ℕ → List ℕ → Parts → ℕ → Left
+treatedFrom engine sets slot touched p looks = leftOf (treatFrom (waker engine) sets slot touched (record { world = worldOf p; looks = looks }))
 
 -- far more looks than an event can have, and few enough to count on
 abbrev pub looksMax : ℕ

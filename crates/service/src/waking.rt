@@ -2,11 +2,12 @@
 ghost use mathlib.Core.Path.{_≡_};
 ghost use Prim.Native.Nat.{ℕ, _+_, _*_, _-_, _<_, _≤_};
 ghost use lib.ListN.{length, take, drop, replicate};
+ghost use Rattle.model.specs.Limits.{slots};
 ghost use Rattle.model.specs.Look.{after};
 ghost use Rattle.model.specs.Marks.{bitOf};
 ghost use Rattle.model.specs.Layout.{tableOf, sleeperAt};
 ghost use Rattle.service.specs.Table.{IsSlot, IsProcess};
-ghost use Rattle.service.specs.Parts.{Placed, IsArrays, Ready, Finishable, parts, left, leftOf, worldOf, lookIn, finishedAt, plainly, quickly, markPlaces, Peopled, looksMax};
+ghost use Rattle.service.specs.Parts.{Placed, IsArrays, Ready, Finishable, parts, left, leftOf, worldOf, lookIn, finishedAt, plainly, quickly, treated, treatedFrom, markPlaces, Peopled, looksMax};
 use crate::Woken;
 use crate::line::clear_array;
 use crate::line::note;
@@ -22,10 +23,13 @@ use model::ALL_ADJUSTMENTS;
 use model::ALL_SEMAPHORES;
 use model::ARRAY_BYTES;
 use model::Copies;
+use model::Engine;
 use model::Judged;
 use model::Line;
 use model::Outcome;
 use model::Place;
+use model::SETS;
+use model::Set;
 
 // The bit of a process in a mask.
 pub fn bit_of(process: u8) -> u8
@@ -245,4 +249,70 @@ pub fn wake_quick(
         w.looks = looks;
         return w;
     }
+}
+
+// A set is treated by the engine's rule. Where nobody is marked the quick rule looks at nobody.
+pub fn wake(
+    engine: Engine,
+    slot: usize,
+    touched: u8,
+    values: &mut [u16; ALL_SEMAPHORES],
+    lasts: &mut [u8; ALL_SEMAPHORES],
+    adjustments: &mut [i16; ALL_ADJUSTMENTS],
+    arrays: &mut [u8],
+    start: Woken,
+) -> Woken
+    requires { ⌜ IsSlot slot ⌝ }
+    requires { ⌜ Ready (parts (now values) (now lasts) (now adjustments) (now arrays) start) ⌝ }
+    requires { ⌜ start .looks ≤ looksMax ⌝ }
+    ensures { λ r. ⌜ left (now (values .exit)) (now (lasts .exit)) (now (adjustments .exit)) (now (arrays .exit)) r ≡ treated engine slot touched (parts (now (values .entry)) (now (lasts .entry)) (now (adjustments .entry)) (now (arrays .entry)) start) (start .looks) ⌝ }
+{
+    match engine {
+        Engine::Plain => wake_plain(slot, values, lasts, adjustments, arrays, start),
+        Engine::Quick => {
+            let line = start.line;
+            let marks = mark_touched(line, slot, touched, 0);
+            if marks == 0 {
+                return start;
+            }
+            wake_quick(slot, marks, values, lasts, adjustments, arrays, start)
+        }
+    }
+}
+
+// "every live set from slot 0 up"
+pub fn wake_all(
+    engine: Engine,
+    sets: [Set; SETS],
+    touched: [u8; SETS],
+    values: &mut [u16; ALL_SEMAPHORES],
+    lasts: &mut [u8; ALL_SEMAPHORES],
+    adjustments: &mut [i16; ALL_ADJUSTMENTS],
+    arrays: &mut [u8],
+    start: Woken,
+) -> Woken
+    requires { ⌜ Ready (parts (now values) (now lasts) (now adjustments) (now arrays) start) ⌝ }
+    requires { ⌜ length touched ≡ slots ⌝ }
+    requires { ⌜ start .looks ≡ 0 ⌝ }
+    ensures { λ r. ⌜ left (now (values .exit)) (now (lasts .exit)) (now (adjustments .exit)) (now (arrays .exit)) r ≡ treatedFrom engine sets 0 touched (parts (now (values .entry)) (now (lasts .entry)) (now (adjustments .entry)) (now (arrays .entry)) start) 0 ⌝ }
+{
+    let mut w = start;
+    let mut slot = 0;
+    while slot < SETS {
+        let set = sets[slot];
+        if 0 < set.count {
+            w = wake(
+                engine,
+                slot,
+                touched[slot],
+                &mut *values,
+                &mut *lasts,
+                &mut *adjustments,
+                &mut *arrays,
+                w,
+            );
+        }
+        slot += 1;
+    }
+    w
 }

@@ -1,0 +1,41 @@
+-- Writing a text into a lent buffer.
+use Prim.Native.Nat.{ℕ, _+_, _≤_}
+use mathlib.Core.Path.{_≡_}
+use mathlib.Core.Bool.{Bool, cond}
+use mathlib.Core.List.{List}
+use lib.Dec.{leb}
+use lib.ListN.{length}
+use lib.Seq.{paste}
+
+-- the buffer with a text at a position, and everything else as it was
+abbrev pub written : List ℕ → ℕ → List ℕ → List ℕ
+written out at text = paste out at text (length text)
+
+-- a text was written where there was room for it; the last argument is the position behind it
+pub record Put (out : List ℕ) (at : ℕ) (text after : List ℕ) (next : ℕ) : Type 0 where
+  pub room : at + length text ≤ length out
+  pub place : next ≡ at + length text
+  pub buffer : after ≡ written out at text
+
+-- .. and it is no longer than this
+pub record PutIn (most : ℕ) (out : List ℕ) (at : ℕ) (text after : List ℕ) (next : ℕ) : Type 0 where
+  pub put : Put out at text after next
+  pub short : length text ≤ most
+
+-- a blank, a process, a sign of equality, and a code
+abbrev pub wakingBytes : ℕ
+wakingBytes = 16
+
+-- no line is longer
+abbrev pub lineBytes : ℕ
+lineBytes = 200
+
+-- is there room for any line?
+abbrev pub hasRoom : List ℕ → ℕ → Bool
+hasRoom out at = leb (at + lineBytes) (length out)
+
+-- a line is written if there is room for any, else nothing is changed; it fits
+pub record PutLine (out : List ℕ) (at : ℕ) (line after : List ℕ) (next : ℕ) : Type 0 where
+  pub place : next ≡ cond (hasRoom out at) (at + length line) at
+  pub buffer : after ≡ cond (hasRoom out at) (written out at line) out
+  pub fits : next ≤ at + lineBytes

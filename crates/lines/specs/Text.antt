@@ -1,0 +1,94 @@
+-- The lines that the program writes, as bytes ("The run file").
+use Prim.Native.Nat.{ℕ, zero, suc, _+_, _/_, _%_}
+use mathlib.Core.Bool.{cond}
+use mathlib.Core.List.{List, [], _∷_, _++_}
+use lib.Dec.{ltb}
+use lib.IntN.{ℤ, pos, negsuc}
+use Rattle.model.specs.declared.Waking.{Waking}
+use Rattle.model.specs.Events.{Event, create, operate, setValue, remove, signal, exit, query, Answer, Result}
+
+-- ---- numbers
+
+abbrev pub blank : ℕ
+blank = 32
+
+abbrev pub minus : ℕ
+minus = 45
+
+abbrev pub equals : ℕ
+equals = 61
+
+abbrev pub newline : ℕ
+newline = 10
+
+abbrev pub digit : ℕ → ℕ
+digit d = 48 + d
+
+-- the decimal digits of n, the most significant first; the first number is at least n
+unfoldable pub digitsIn : ℕ → ℕ → List ℕ
+digitsIn zero n = digit n ∷ []
+digitsIn (suc f) n = cond (ltb n 10) (digit n ∷ []) (digitsIn f (n / 10) ++ digit (n % 10) ∷ [])
+
+unfoldable pub digitsOf : ℕ → List ℕ
+digitsOf n = digitsIn n n
+
+-- a minus sign before the digits of a number below zero
+unfoldable pub signedOf : ℤ → List ℕ
+signedOf (pos n) = digitsOf n
+signedOf (negsuc n) = minus ∷ digitsOf (suc n)
+
+-- ---- lines
+
+-- a word and a number
+unfoldable pub wordLine : List ℕ → ℕ → List ℕ
+wordLine word n = word ++ blank ∷ digitsOf n ++ newline ∷ []
+
+-- "`events` and the number"
+abbrev pub headLine : ℕ → List ℕ
+headLine n = wordLine (101 ∷ 118 ∷ 101 ∷ 110 ∷ 116 ∷ 115 ∷ []) n
+
+-- "A refused file writes one line, `bad` and the code."
+abbrev pub badLine : ℕ → List ℕ
+badLine code = wordLine (98 ∷ 97 ∷ 100 ∷ []) code
+
+-- "the wakings as process=code", a blank before each
+unfoldable pub wakingText : ℕ → ℤ → List ℕ
+wakingText process code = blank ∷ digitsOf process ++ equals ∷ signedOf code
+
+unfoldable pub wakingsText : List Waking → List ℕ
+wakingsText [] = []
+wakingsText (w ∷ ws) = wakingText (w .process) (w .code) ++ wakingsText ws
+
+-- "position from 0, code, value, quick looks, and the wakings"
+unfoldable pub eventText : ℕ → ℤ → ℕ → ℕ → List Waking → List ℕ
+eventText position code value looks wakings =
+    digitsOf position ++ blank ∷ signedOf code ++ blank ∷ digitsOf value ++ blank ∷ digitsOf looks ++ wakingsText wakings ++ newline ∷ []
+
+-- "A query line is position, code, value, last process, for increase, for zero"
+unfoldable pub queryText : ℕ → ℤ → ℕ → ℕ → ℕ → ℕ → List ℕ
+queryText position code value last forIncrease forZero =
+    digitsOf position ++ blank ∷ signedOf code ++ blank ∷ digitsOf value ++ blank ∷ digitsOf last ++ blank ∷ digitsOf forIncrease ++ blank ∷ digitsOf forZero
+    ++ newline ∷ []
+
+abbrev pub eventLine : ℕ → Result → List ℕ
+eventLine position r = eventText position (r .answer .code) (r .answer .value) (r .looks) (r .wakings)
+
+abbrev pub queryLine : ℕ → Answer → List ℕ
+queryLine position a = queryText position (a .code) (a .value) (a .seen .last) (a .seen .increase) (a .seen .zero)
+
+-- ---- the lines of a list of events
+
+unfoldable pub lineOf : ℕ → Event → Result → List ℕ
+lineOf position (create count read alter) r = eventLine position r
+lineOf position (operate p i bytes) r = eventLine position r
+lineOf position (setValue i n v) r = eventLine position r
+lineOf position (remove i) r = eventLine position r
+lineOf position (signal p) r = eventLine position r
+lineOf position (exit p) r = eventLine position r
+lineOf position (query i n) r = queryLine position (r .answer)
+
+-- "then a line for each", from a position on
+unfoldable pub textOf : ℕ → List Event → List Result → List ℕ
+textOf position [] rs = []
+textOf position (e ∷ es) [] = []
+textOf position (e ∷ es) (r ∷ rs) = lineOf position e r ++ textOf (position + 1) es rs

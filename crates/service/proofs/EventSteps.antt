@@ -1,0 +1,95 @@
+-- What the events that wake by no rule return, put together from what their calls leave.
+use Prim.Native.Nat.{ℕ, _+_, _*_, _%_, _<_}
+use native.Mathlib.Omega.{arith}
+use mathlib.Core.Path.{_≡_, _∙_}
+use mathlib.Core.Bool.{true, false}
+use mathlib.Core.List.{List, [], _∷_}
+use lib.ListN.{length, take, set, getD}
+use lib.IntN.{ℤ, pos}
+use borrow.Author.Tests.{ltb-true}
+use Rattle.model.specs.declared.Host.{Host}
+use Rattle.model.specs.declared.Set.{Set}
+use Rattle.model.specs.declared.Step.{Step}
+use Rattle.model.specs.declared.Line.{Line}
+use Rattle.model.specs.declared.Wakings.{Wakings}
+use Rattle.model.specs.Limits.{slots}
+use Rattle.model.specs.State.{Table, Sleeper, noSet, freeSet}
+use Rattle.model.specs.Waking.{waking}
+use Rattle.model.specs.Checks.{identifierOf, slotOf, asleep, freeSlot, checkCreate, checkRemove, checkProcess}
+use Rattle.model.specs.Events.{cleared, keep, isOf, endedWith, doCreate, doRemove, doSignal}
+use Rattle.model.specs.Layout.{Held, stateOf, queueOf, wakingsOf, stepOf}
+use Rattle.model.proofs.QueueLaws.{awake, notOf}
+use Rattle.model.proofs.LayoutLaws.{ended-awake, ended-at}
+use Rattle.service.specs.Line.{positionOf, noted, Holds, Lined, Emptied}
+use Rattle.service.proofs.LineLaws.{asleep-of, found, noted-more}
+use Rattle.service.proofs.CheckLaws.{asleep-found}
+use Rattle.service.proofs.EventLaws.{held-line, held-arrays, step-refused}
+
+-- a step with these parts of the host
+abbrev pub stepWith : List Set → Table → Line → List ℕ → ℤ → ℕ → Wakings → Step
+stepWith sets t line arrays code value wakings =
+    record {
+      host = record { sets = sets; values = t .values; lasts = t .lasts; adjustments = t .adjustments; line = line; arrays = arrays };
+      code = code;
+      value = value;
+      looks = 0;
+      wakings = wakings;
+    }
+
+-- ---- create
+
+module _ (h : Host) (k : Held h) (count read alter : ℕ) {code : ℕ} (e : code ≡ checkCreate (stateOf h) count) where
+  pub create-refused : (code ≡ 0 → ⊥) → stepWith (h .sets) (stateOf h .table) (h .line) (h .arrays) (pos code) 0 (wakingsOf []) ≡ stepOf (doCreate (stateOf h) count read alter)
+  unfolding doCreate
+  create-refused n = rw (← e) (step-refused h k code _ n)
+
+  pub created : {slot value : ℕ} {sets : List Set} {t : Table} → code ≡ 0 → slot ≡ freeSlot (h .sets)
+      → sets ≡ set (h .sets) slot (record { generation = getD (h .sets) slot noSet .generation; count = count; read = read; alter = alter })
+      → t ≡ cleared (stateOf h .table) slot
+      → value ≡ slot + slots * getD (h .sets) slot noSet .generation
+      → stepWith sets t (h .line) (h .arrays) (pos code) value (wakingsOf []) ≡ stepOf (doCreate (stateOf h) count read alter)
+  unfolding doCreate identifierOf
+  created z es ek et ev = rw (← e, z, ek, et, ev, es, ← held-line h k, ← held-arrays h k)
+
+-- ---- remove
+
+module _ (h : Host) (k : Held h) (i : ℤ) {code : ℕ} (e : code ≡ checkRemove (stateOf h) i) where
+  pub remove-refused : (code ≡ 0 → ⊥) → stepWith (h .sets) (stateOf h .table) (h .line) (h .arrays) (pos code) 0 (wakingsOf []) ≡ stepOf (doRemove (stateOf h) i)
+  unfolding doRemove
+  remove-refused n = rw (← e) (step-refused h k code _ n)
+
+  pub removed : {slot : ℕ} {sets : List Set} {t : Table} {line : Line} {arrays : List ℕ} {wakings : Wakings} → code ≡ 0 → slot ≡ slotOf i
+      → sets ≡ set (h .sets) slot (freeSet ((getD (h .sets) slot noSet .generation + 1) % 65536))
+      → t ≡ cleared (stateOf h .table) slot
+      → Emptied slot (stateOf h .queue) line arrays wakings
+      → stepWith sets t line arrays (pos code) 0 wakings ≡ stepOf (doRemove (stateOf h) i)
+  unfolding doRemove
+  removed z es ek et m = rw (← e, z, ek, et, m .rest .places, m .rest .bytes, m .told, es)
+
+-- ---- signal
+
+-- the sleeper of a process, if there is one, is told
+module _ {line : Line} {arrays : List ℕ} (l : Lined line arrays) (p : ℕ) (code : ℤ) where
+  abbrev sleepers : List Sleeper
+  sleepers = queueOf line arrays
+
+  pub told-asleep : {w : Wakings} → asleep p sleepers ≡ true → w ≡ wakingsOf [] → noted w p code ≡ wakingsOf (endedWith code (isOf p) sleepers)
+  told-asleep t e =
+      let at : ℕ = positionOf p (take (line .asleep) (line .places)) in
+      let lt : at < line .asleep = ltb-true at (line .asleep) (asleep-found p line sleepers (l .holds .places) ∙ t) in
+      let within : at < length sleepers = omega (arith, asleep-of (l .holds) (l .fits)) in
+      let one : endedWith code (isOf p) sleepers ≡ waking p code ∷ [] = ended-at p code sleepers at (l .fits .distinct) within (found (l .holds) (l .fits) p lt) in
+      rw one (noted-more [] e p code (omega arith))
+
+  pub told-awake : asleep p sleepers ≡ false → wakingsOf [] ≡ wakingsOf (endedWith code (isOf p) sleepers)
+  told-awake t = rw (ended-awake p code sleepers (awake p sleepers t))
+
+module _ (h : Host) (k : Held h) (p : ℕ) {code : ℕ} (e : code ≡ checkProcess p) where
+  pub signal-refused : (code ≡ 0 → ⊥) → stepWith (h .sets) (stateOf h .table) (h .line) (h .arrays) (pos code) 0 (wakingsOf []) ≡ stepOf (doSignal (stateOf h) p)
+  unfolding doSignal
+  signal-refused n = rw (← e) (step-refused h k code _ n)
+
+  pub signalled : {line : Line} {arrays : List ℕ} {wakings : Wakings} → code ≡ 0 → Holds line arrays (keep (notOf p) (stateOf h .queue)) → wakings ≡ wakingsOf (endedWith (pos 4) (isOf p) (stateOf h .queue))
+      → stepWith (h .sets) (stateOf h .table) line arrays (pos code) 0 wakings ≡ stepOf (doSignal (stateOf h) p)
+  unfolding doSignal
+  signalled z m ew = rw (← e, z, m .places, m .bytes, ew)

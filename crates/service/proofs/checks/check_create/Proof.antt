@@ -1,0 +1,25 @@
+-- `service::checks::check_create` meets its contract.
+use mathlib.Core.Path.{sym, _∙_}
+use borrow.Author.Needs.{needs}
+use borrow.Author.Tests.{eq-eqb, ne-eqb}
+use Rattle.model.specs.Checks.{checkCreate}
+use Rattle.service.proofs.checks.check_create.Statement.{statement}
+use Rattle.service.proofs.checks.check_create.Tie as tie
+
+beyond-requires : tie.Need-beyond-requires
+beyond-requires c κs = search needs
+
+returns : tie.Need-returns
+unfolding checkCreate
+returns c s e = rw (sym (c .before .beyond .ensures) ∙ c .if1 .taken)
+
+returns-2 : tie.Need-returns-2
+unfolding checkCreate
+returns-2 c s e = rw (sym (c .before .before .beyond .ensures) ∙ c .before .if1 .left, ← e, eq-eqb _ 4 (c .if2 .taken))
+
+returns-3 : tie.Need-returns-3
+unfolding checkCreate
+returns-3 c s e = rw (sym (c .before .before .beyond .ensures) ∙ c .before .if1 .left, ← e, ne-eqb _ 4 (c .if2 .left))
+
+pub check-create-spec : {M : Type 1} → statement M
+check-create-spec = tie.close (tie.spec beyond-requires returns returns-2 returns-3)

@@ -1,0 +1,23 @@
+-- How an event's parts make up the host it was handed, and the step it answers.
+use Prim.Native.Nat.{ℕ}
+use mathlib.Core.List.{List}
+use lib.IntN.{ℤ}
+use Rattle.model.specs.declared.Set.{Set}
+use Rattle.model.specs.declared.Line.{Line}
+use Rattle.model.specs.declared.Host.{Host}
+use Rattle.model.specs.declared.Step.{Step}
+use Rattle.service.specs.declared.Told.{Told}
+
+abbrev pub hostWith : List Set → List ℕ → List ℕ → List ℤ → List ℕ → Line → Host
+hostWith sets values lasts adjustments arrays line =
+    record { sets = sets; values = values; lasts = lasts; adjustments = adjustments; line = line; arrays = arrays }
+
+abbrev pub stepWith : List Set → List ℕ → List ℕ → List ℤ → List ℕ → Told → Step
+stepWith sets values lasts adjustments arrays told =
+    record {
+      host = hostWith sets values lasts adjustments arrays (told .woken .line);
+      code = told .code;
+      value = 0;
+      looks = told .woken .looks;
+      wakings = told .woken .wakings;
+    }

@@ -1,0 +1,62 @@
+// Remove: a set's sleepers are ended, and its slot is free again.
+ghost use mathlib.Core.Path.{_≡_};
+ghost use Rattle.model.specs.Events.{doRemove};
+ghost use Rattle.model.specs.Layout.{Held, stateOf, stepOf};
+use crate::checks::check_remove;
+use crate::line::Removed;
+use crate::line::no_wakings;
+use crate::line::remove_set;
+use crate::table::clear_slot;
+use judging::answer;
+use judging::slot_of;
+use model::Host;
+use model::Set;
+use model::Step;
+use std::num::wrapping_add_u16;
+
+// All of the slot goes to 0 but its generation, which goes up by one, from 65,535 round to 0.
+pub fn remove(h: Host, identifier: i32) -> Step
+    requires { ⌜ Held h ⌝ }
+    ensures { λ r. ⌜ r ≡ stepOf (doRemove (stateOf h) identifier) ⌝ }
+{
+    let mut sets = h.sets;
+    let mut values = h.values;
+    let mut lasts = h.lasts;
+    let mut adjustments = h.adjustments;
+    let old = h.line;
+    let mut arrays = h.arrays;
+    let mut left = Removed {
+        line: old,
+        wakings: no_wakings(),
+    };
+    let code = check_remove(sets, identifier);
+    if code == 0 {
+        let slot = slot_of(identifier);
+        let set = sets[slot];
+        let generation = wrapping_add_u16(set.generation, 1);
+        sets[slot] = Set {
+            generation: generation,
+            count: 0,
+            read: 0,
+            alter: 0,
+        };
+        clear_slot(&mut values, &mut lasts, &mut adjustments, slot);
+        left = remove_set(old, &mut arrays, slot);
+    }
+    let line = left.line;
+    let wakings = left.wakings;
+    Step {
+        host: Host {
+            sets: sets,
+            values: values,
+            lasts: lasts,
+            adjustments: adjustments,
+            line: line,
+            arrays: arrays,
+        },
+        code: answer(code),
+        value: 0,
+        looks: 0,
+        wakings: wakings,
+    }
+}

@@ -1,0 +1,69 @@
+// Signal: a sleeping call is interrupted.
+ghost use mathlib.Core.Path.{_≡_};
+ghost use lib.IntN.{pos};
+ghost use Rattle.model.specs.Events.{keep, isOf, endedWith, doSignal};
+ghost use Rattle.model.specs.Layout.{Held, stateOf, stepOf, queueOf, wakingsOf};
+ghost use Rattle.model.proofs.QueueLaws.{notOf};
+ghost use Rattle.service.specs.Line.{Holds, Lined};
+use crate::checks::check_process;
+use crate::checks::is_asleep;
+use crate::line::Removed;
+use crate::line::leave;
+use crate::line::no_wakings;
+use crate::line::note;
+use judging::answer;
+use model::Host;
+use model::Line;
+use model::Step;
+
+// Ends the sleeper of `process` with 4 and takes it out. If it is awake, nothing changes.
+fn interrupt(line: Line, arrays: &mut [u8], process: u8) -> Removed
+    requires { ⌜ Lined line (now arrays) ⌝ }
+    ensures { λ r. ⌜ Holds (r .line) (now (arrays .exit)) (keep (notOf process) (queueOf line (now (arrays .entry)))) ⌝ }
+    ensures { λ r. ⌜ r .wakings ≡ wakingsOf (endedWith (pos 4) (isOf process) (queueOf line (now (arrays .entry)))) ⌝ }
+{
+    let mut wakings = no_wakings();
+    if is_asleep(line, process) {
+        wakings = note(wakings, process, 4);
+    }
+    Removed {
+        line: leave(line, arrays, process),
+        wakings: wakings,
+    }
+}
+
+pub fn signal(h: Host, process: u8) -> Step
+    requires { ⌜ Held h ⌝ }
+    ensures { λ r. ⌜ r ≡ stepOf (doSignal (stateOf h) process) ⌝ }
+{
+    let sets = h.sets;
+    let values = h.values;
+    let lasts = h.lasts;
+    let adjustments = h.adjustments;
+    let old = h.line;
+    let mut arrays = h.arrays;
+    let mut left = Removed {
+        line: old,
+        wakings: no_wakings(),
+    };
+    let code = check_process(process);
+    if code == 0 {
+        left = interrupt(old, &mut arrays, process);
+    }
+    let line = left.line;
+    let wakings = left.wakings;
+    Step {
+        host: Host {
+            sets: sets,
+            values: values,
+            lasts: lasts,
+            adjustments: adjustments,
+            line: line,
+            arrays: arrays,
+        },
+        code: answer(code),
+        value: 0,
+        looks: 0,
+        wakings: wakings,
+    }
+}

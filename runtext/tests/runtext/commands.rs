@@ -1,0 +1,63 @@
+//! Status, messages and bytes of the commands.
+
+use crate::{bad, good, EXAMPLE};
+
+const EXAMPLE_FILE: [u8; 44] = [
+    0x03, 0x00, 0x0E, 0x00, 0x04, 0x00, 0x12, 0x00, 0x0D, 0x00, 0x1F, 0x00, 0x0D, 0x00, 0x01, 0x01,
+    0xFF, 0xFF, 0x02, 0x01, 0x00, 0x00, 0x00, 0x00, 0x01, 0x00, 0x00, 0xFF, 0xFF, 0x00, 0x00, 0x02,
+    0x02, 0x00, 0x00, 0x00, 0x00, 0x01, 0x00, 0x00, 0x01, 0x00, 0x00, 0x00,
+];
+
+#[test]
+fn the_whole_example_of_44_bytes() {
+    assert_eq!(good(&["assemble"], EXAMPLE.as_bytes()), EXAMPLE_FILE);
+    assert_eq!(good(&["disassemble", "-"], &EXAMPLE_FILE), EXAMPLE.as_bytes());
+}
+
+#[test]
+fn no_events() {
+    assert_eq!(good(&["assemble"], b""), [0, 0]);
+    assert_eq!(good(&["disassemble"], &[0, 0]), b"");
+}
+
+#[test]
+fn the_canonical_text() {
+    let text =
+        b"  create 3   alter=8,1 #\n\noperate 4 set=0 07:5/nowait,0xF,undo\nquery 0 number=1";
+    let wanted = "create 3 read=all alter=1,8\noperate 4 set=0 7:+5/undo,nowait,0x000f\n\
+        query 0 number=1\n";
+    let file = good(&["assemble"], &text[..]);
+    assert_eq!(good(&["disassemble"], &file), wanted.as_bytes());
+    assert_eq!(good(&["assemble"], wanted.as_bytes()), file);
+}
+
+#[test]
+fn a_mistake_in_a_text_is_2() {
+    let text = b"exit 1\nset 0 number=x value=1";
+    let wanted = "2:14: expected the number of a semaphore, 0 to 65535, found 'x'\n";
+    for command in ["assemble", "story"] {
+        assert_eq!(bad(&[command], text), (2, wanted.to_string()));
+    }
+}
+
+#[test]
+fn a_damaged_run_file_is_1() {
+    let (status, words) = bad(&["disassemble"], &EXAMPLE_FILE[..43]);
+    assert_eq!((status, &words[..]), (1, "bad 202: the last body ends at 44, the file at 43\n"));
+}
+
+#[test]
+fn arguments() {
+    assert!(good(&["--help"], b"").starts_with(b"usage:"));
+    for arguments in [
+        &[][..],
+        &["replay"],
+        &["assemble", "--run"],
+        &["story", "--program"],
+        &["disassemble", "-", "-"],
+    ] {
+        assert_eq!(bad(arguments, b"").0, 2, "{arguments:?}");
+    }
+    let (status, words) = bad(&["assemble", "no/such/file"], b"");
+    assert!(status == 1 && words.starts_with("no/such/file: "), "{words}");
+}

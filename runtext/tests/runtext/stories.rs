@@ -1,0 +1,102 @@
+//! Stories, with answers and values as the program gives them.
+
+use crate::files::generated;
+use crate::{bad, good, replay, run, EXAMPLE};
+
+fn story(arguments: &[&str], input: &[u8]) -> String {
+    let program = replay();
+    let program = ["story", "--program", program.to_str().expect("a plain path")];
+    String::from_utf8(good(&[&program, arguments].concat(), input)).expect("a text")
+}
+
+#[test]
+fn the_whole_example() {
+    let wanted = "\
+3 events
+
+event 0: create a set of 1 semaphore, for all to read and alter
+  line    0 0 0 0
+  answer  done (0), the set's identifier is 0
+  values  set 0: 0
+
+event 1: process 1 on set 0: take 1 from semaphore 0
+  line    1 -1 0 0
+  answer  asleep (-1)
+  values  set 0: 0
+  waits   set 0, semaphore 0: 1 for increase, 0 for zero
+
+event 2: process 2 on set 0: add 1 to semaphore 0
+  line    2 0 0 1 1=0
+  answer  done (0), 1 look
+  wakes   process 1: done (0)
+  values  set 0: 0
+";
+    assert_eq!(story(&[], EXAMPLE.as_bytes()), wanted);
+    let file = good(&["assemble"], EXAMPLE.as_bytes());
+    assert_eq!(story(&["--run"], &file), wanted);
+}
+
+/// Every kind of event and ending, in a few words each.
+#[test]
+fn every_event_in_words() {
+    let text = "create 2 read=1,2 alter=1\ncreate 9\noperate 1 set=0 0:+2/undo 1:0\n\
+        operate 2 set=0 0:0/nowait\noperate 2 set=0 0:0/0x1\nsignal 2\noperate 2 set=0 0:0\n\
+        query 0 number=0\nset 0 number=1 value=40000\nremove 0\nexit 1\nquery 0 number=0\n";
+    let story = story(&[], text.as_bytes());
+    for wanted in [
+        "event 0: create a set of 2 semaphores, for 1,2 to read, for 1 to alter\n",
+        "answer  refused: EINVAL (22), the count isn't 1 to 8\n",
+        "process 1 on set 0: add 2 to semaphore 0 (undo); wait for zero at semaphore 1\n",
+        "  values  set 0: 2 0\n",
+        "answer  refused: EAGAIN (11), it would have to sleep, but nowait is given\n",
+        "wait for zero at semaphore 0 (0x0001)\n",
+        "  waits   set 0, semaphore 0: 0 for increase, 1 for zero\n",
+        "  wakes   process 2: EINTR (4), by the signal\n",
+        "answer  done (0), value 2, last process 1, waiting 0 for increase, 1 for zero\n",
+        "answer  refused: ERANGE (34), the value isn't 0 to 32767\n",
+        "  wakes   process 2: EIDRM (43), its set is removed\n",
+        "answer  done (0), 0 looks\n  values  no live set\n",
+        "refused: EINVAL (22), no live set has this identifier, or it has no such semaphore\n",
+    ] {
+        assert!(story.contains(wanted), "{wanted} is not in\n{story}");
+    }
+}
+
+#[test]
+fn a_refused_file_is_told_in_words() {
+    let wanted = "bad 202\nThe file is refused: its offsets or its end are not as the table says. \
+        None of its events ran.\n";
+    assert_eq!(story(&["--run"], &[0, 0, 0]), wanted);
+}
+
+#[test]
+fn a_missing_program_says_what_builds_it() {
+    let (status, words) = bad(&["story", "--program", "no/replay"], EXAMPLE.as_bytes());
+    assert!(status == 1 && words.contains("`rt check`"), "{words}");
+}
+
+/// A full file takes many runs. Its lines are those of one replay, and every query of the file
+/// answers with the value that the story shows.
+#[test]
+fn a_full_file() {
+    let file = generated(&["--kind", "mixed", "--seed", "3"]);
+    let story = story(&["--run"], &file);
+    let lines: Vec<&str> = story.lines().filter_map(|row| row.strip_prefix("  line    ")).collect();
+    let replayed = String::from_utf8(run(&replay(), &[], &file).stdout).expect("lines");
+    assert_eq!(lines, replayed.lines().skip(1).collect::<Vec<_>>());
+    let queries: Vec<bool> = story.split("\n\n").filter_map(query_agrees).collect();
+    assert!(queries.len() > 200 && queries.iter().all(|&agrees| agrees));
+    let cut = story.matches("not all shown").count();
+    assert!(cut <= 4, "{cut} events of a full file without all values");
+}
+
+/// Of a query that is done: does the story show its value among those of its set?
+fn query_agrees(scene: &str) -> Option<bool> {
+    let rest = scene.split_once("query semaphore ")?.1;
+    let (number, rest) = rest.split_once(" of set ")?;
+    let (identifier, rest) = rest.split_once('\n')?;
+    let value = rest.split_once("done (0), value ")?.1.split(',').next()?;
+    let set = format!("  values  set {identifier}: ");
+    let values = rest.lines().find_map(|row| row.strip_prefix(&set))?;
+    Some(values.split(' ').nth(number.parse().ok()?) == Some(value))
+}
