@@ -27,7 +27,7 @@ use Rattle.model.specs.Look.{look, valuesOf, adjustmentsOf, copiesOf}
 use Rattle.model.specs.Marks.{bitOf, mine, maskOf}
 use Rattle.model.specs.Checks.{slotOf, checkNumber}
 use Rattle.model.specs.Counts.{noOperation, stop, stopsAt, forIncrease, forZero}
-use Rattle.model.specs.Events.{Result, seenAt, doQuery}
+use Rattle.model.specs.Events.{Result, answer, seenAt, doQuery}
 use Rattle.model.specs.Layout.{Held, noPlace, sleeperAt, queueOf, stateOf, wakingsOf, queriedOf}
 use Rattle.model.proofs.Lists.{drop-at}
 use Rattle.model.proofs.Ones.{ones-mask}
@@ -231,8 +231,7 @@ module _ (h : Host) (k : Held h) where
       record { few = held-few h k; long = omega (arith, held-few h k); bytes = held-bytes h k; placed = λ i l. the-placed _ ready i l }
 
   module _ (i : ℤ) (n : ℕ) {code : ℕ} (e : code ≡ checkNumber (stateOf h) i n) where
-    pub query-refused : (code ≡ 0 → ⊥)
-        → record { code = pos code; value = 0; last = 0; increase = 0; zero = 0; «increase_mask» = 0; «zero_mask» = 0 } ≡ queriedOf (doQuery (stateOf h) i n .answer)
+    pub query-refused : (code ≡ 0 → ⊥) → queriedOf (answer (pos code)) ≡ queriedOf (doQuery (stateOf h) i n .answer)
     unfolding doQuery
     query-refused x = rw (← e) (ap (λ (r : Result). queriedOf (r .answer)) (refuses code (stateOf h) _ x))
 

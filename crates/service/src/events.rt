@@ -1,4 +1,15 @@
 // The seven events, each in its own file.
+ghost use mathlib.Core.Path.{_≡_};
+ghost use Rattle.service.specs.Told.{stepWith};
+use crate::Told;
+use model::ALL_ADJUSTMENTS;
+use model::ALL_BYTES;
+use model::ALL_SEMAPHORES;
+use model::Host;
+use model::SETS;
+use model::Set;
+use model::Step;
+
 pub mod create;
 pub mod exit;
 pub mod operate;
@@ -6,3 +17,33 @@ pub mod query;
 pub mod remove;
 pub mod set_value;
 pub mod signal;
+
+// The parts after an event, and what it tells, put together.
+pub fn step(
+    sets: [Set; SETS],
+    values: [u16; ALL_SEMAPHORES],
+    lasts: [u8; ALL_SEMAPHORES],
+    adjustments: [i16; ALL_ADJUSTMENTS],
+    arrays: [u8; ALL_BYTES],
+    told: Told,
+) -> Step
+    ensures { λ r. ⌜ r ≡ stepWith sets values lasts adjustments arrays told ⌝ }
+{
+    let woken = told.woken;
+    let line = woken.line;
+    let wakings = woken.wakings;
+    Step {
+        host: Host {
+            sets: sets,
+            values: values,
+            lasts: lasts,
+            adjustments: adjustments,
+            line: line,
+            arrays: arrays,
+        },
+        code: told.code,
+        value: 0,
+        looks: woken.looks,
+        wakings: wakings,
+    }
+}

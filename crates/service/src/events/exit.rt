@@ -7,6 +7,7 @@ ghost use Rattle.service.specs.Told.{hostWith, stepWith};
 use crate::Told;
 use crate::Woken;
 use crate::checks::check_process;
+use crate::events::step;
 use crate::line::leave;
 use crate::line::no_wakings;
 use crate::table::touched_by_exit;
@@ -91,21 +92,5 @@ pub fn exit(engine: Engine, h: Host, process: u8) -> Step
         line,
         process,
     );
-    let woken = told.woken;
-    let left = woken.line;
-    let wakings = woken.wakings;
-    Step {
-        host: Host {
-            sets: sets,
-            values: values,
-            lasts: lasts,
-            adjustments: adjustments,
-            line: left,
-            arrays: arrays,
-        },
-        code: told.code,
-        value: 0,
-        looks: woken.looks,
-        wakings: wakings,
-    }
+    step(sets, values, lasts, adjustments, arrays, told)
 }

@@ -7,6 +7,7 @@ ghost use Rattle.service.specs.Told.{hostWith, stepWith};
 use crate::Told;
 use crate::Woken;
 use crate::checks::check_operate;
+use crate::events::step;
 use crate::line::join;
 use crate::line::no_wakings;
 use crate::line::store_array;
@@ -142,21 +143,5 @@ pub fn operate(engine: Engine, h: Host, process: u8, identifier: i32, bytes: &[u
         identifier,
         bytes,
     );
-    let woken = told.woken;
-    let left = woken.line;
-    let wakings = woken.wakings;
-    Step {
-        host: Host {
-            sets: sets,
-            values: values,
-            lasts: lasts,
-            adjustments: adjustments,
-            line: left,
-            arrays: arrays,
-        },
-        code: told.code,
-        value: 0,
-        looks: woken.looks,
-        wakings: wakings,
-    }
+    step(sets, values, lasts, adjustments, arrays, told)
 }

@@ -1,6 +1,7 @@
 // Query: a semaphore's value and last process, and who waits for it.
 ghost use mathlib.Core.Path.{_≡_};
-ghost use Rattle.model.specs.Events.{doQuery};
+ghost use lib.IntN.{pos};
+ghost use Rattle.model.specs.Events.{answer as answerOf, doQuery};
 ghost use Rattle.model.specs.Layout.{Held, stateOf, queueOf, sleeperAt, queriedOf};
 ghost use Rattle.service.specs.Parts.{IsArrays, Placed};
 ghost use Rattle.service.specs.Query.{Seated, Waits, Waiting, lookTable};
@@ -102,6 +103,21 @@ fn all_waiters(
     }
 }
 
+// A refused query: zeros after the code.
+fn refused(code: u8) -> Queried
+    ensures { λ r. ⌜ r ≡ queriedOf (answerOf (pos code)) ⌝ }
+{
+    Queried {
+        code: answer(code),
+        value: 0,
+        last: 0,
+        increase: 0,
+        zero: 0,
+        increase_mask: 0,
+        zero_mask: 0,
+    }
+}
+
 // A wait count is the number of ones in its mask.
 pub fn query(h: Host, identifier: i32, number: u16) -> Queried
     requires { ⌜ Held h ⌝ }
@@ -115,15 +131,7 @@ pub fn query(h: Host, identifier: i32, number: u16) -> Queried
     let arrays = h.arrays;
     let code = check_number(sets, identifier, number);
     if code != 0 {
-        return Queried {
-            code: answer(code),
-            value: 0,
-            last: 0,
-            increase: 0,
-            zero: 0,
-            increase_mask: 0,
-            zero_mask: 0,
-        };
+        return refused(code);
     }
     let slot = slot_of(identifier);
     let at = slot * SEMAPHORES + (number as usize);

@@ -1,5 +1,7 @@
 // Remove: a set's sleepers are ended, and its slot is free again.
 ghost use mathlib.Core.Path.{_≡_};
+ghost use Prim.Native.Nat.{_+_, _%_};
+ghost use Rattle.model.specs.State.{freeSet};
 ghost use Rattle.model.specs.Events.{doRemove};
 ghost use Rattle.model.specs.Layout.{Held, stateOf, stepOf};
 use crate::checks::check_remove;
@@ -14,7 +16,19 @@ use model::Set;
 use model::Step;
 use std::num::wrapping_add_u16;
 
-// All of the slot goes to 0 but its generation, which goes up by one, from 65,535 round to 0.
+// A slot that is free again: its generation goes up by one, from 65,535 round to 0.
+fn freed(set: Set) -> Set
+    ensures { λ r. ⌜ r ≡ freeSet ((set .generation + 1) % 65536) ⌝ }
+{
+    Set {
+        generation: wrapping_add_u16(set.generation, 1),
+        count: 0,
+        read: 0,
+        alter: 0,
+    }
+}
+
+// All of the slot goes to 0 but its generation.
 pub fn remove(h: Host, identifier: i32) -> Step
     requires { ⌜ Held h ⌝ }
     ensures { λ r. ⌜ r ≡ stepOf (doRemove (stateOf h) identifier) ⌝ }
@@ -33,13 +47,7 @@ pub fn remove(h: Host, identifier: i32) -> Step
     if code == 0 {
         let slot = slot_of(identifier);
         let set = sets[slot];
-        let generation = wrapping_add_u16(set.generation, 1);
-        sets[slot] = Set {
-            generation: generation,
-            count: 0,
-            read: 0,
-            alter: 0,
-        };
+        sets[slot] = freed(set);
         clear_slot(&mut values, &mut lasts, &mut adjustments, slot);
         left = remove_set(old, &mut arrays, slot);
     }

@@ -7,6 +7,7 @@ ghost use Rattle.service.specs.Told.{hostWith, stepWith};
 use crate::Told;
 use crate::Woken;
 use crate::checks::check_set_value;
+use crate::events::step;
 use crate::line::no_wakings;
 use crate::table::assign;
 use crate::waking::wake;
@@ -92,21 +93,5 @@ pub fn set_value(engine: Engine, h: Host, identifier: i32, number: u16, value: i
         number,
         value,
     );
-    let woken = told.woken;
-    let left = woken.line;
-    let wakings = woken.wakings;
-    Step {
-        host: Host {
-            sets: sets,
-            values: values,
-            lasts: lasts,
-            adjustments: adjustments,
-            line: left,
-            arrays: arrays,
-        },
-        code: told.code,
-        value: 0,
-        looks: woken.looks,
-        wakings: wakings,
-    }
+    step(sets, values, lasts, adjustments, arrays, told)
 }

@@ -6,15 +6,12 @@ use borrow.Author.Needs.{needs}
 use Rattle.service.proofs.waking.bit_of.Statement.{statement}
 use Rattle.service.proofs.waking.bit_of.Tie as tie
 
--- src/waking.rt:35:13
 sub-result : tie.Need-sub-result
 sub-result c = search needs
 
--- src/waking.rt:35:5
 shl-result : tie.Need-shl-result
 shl-result c = search needs
 
--- src/waking.rt:31:1
 returns : tie.Need-returns
 returns c = bit-of (c .args .process - 1) (omega (arith, c .pre .most))
 

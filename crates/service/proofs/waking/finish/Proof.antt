@@ -11,47 +11,38 @@ use borrow.Author.Needs.{needs}
 use Rattle.service.proofs.waking.finish.Statement.{statement}
 use Rattle.service.proofs.waking.finish.Tie as tie
 
--- src/waking.rt:115:17
 mul-place : tie.Need-mul-place
 mul-place c = omega (arith, asleep-few _ (c .before .before .pre .ready), c .before .before .pre .there)
 
--- src/waking.rt:115:17
 element-copy-out-place : tie.Need-element-copy-out-place
 element-copy-out-place c = omega (arith, asleep-few _ (c .before .before .pre .ready), c .before .before .pre .there)
 
--- src/waking.rt:119:5
 settle-requires : tie.Need-settle-requires
 settle-requires c κs =
     let a = c .before .before .before .before .before .before .before .before in
     (is-arrays _ (a .pre .ready), the-placed _ (a .pre .ready) (a .args .at) (a .pre .there))
 
--- src/waking.rt:120:5
 clear-array-requires : tie.Need-clear-array-requires
 clear-array-requires c κs =
     let a = c .before .before .before .before .before .before .before .before .before .before in
     (is-arrays _ (a .pre .ready), the-placed _ (a .pre .ready) (a .args .at) (a .pre .there) .process)
 
--- src/waking.rt:122:15
 take-out-requires : tie.Need-take-out-requires
 take-out-requires c κs =
     let a = c .before .before .before .before .before .before .before .before .before .before .before .before .before in
     (a .pre .there, asleep-few _ (a .pre .ready))
 
--- src/waking.rt:124:41
 code-of-requires : tie.Need-code-of-requires
 code-of-requires c κs = search needs
 
--- src/waking.rt:124:18
 note-requires : tie.Need-note-requires
 note-requires c κs =
     let a = c .before .before .before .before .before .before .before .before .before .before .before .before .before .before .before in
     counted-few _ (a .pre .ready) (a .pre .there)
 
--- src/waking.rt:101:1
 same-length : tie.Need-same-length
 same-length c = search needs
 
--- src/waking.rt:101:1
 returns : tie.Need-returns
 returns c =
     let a = c .before .before .before .before .before .before .before .before .before .before .before .before .before .before .before .before in

@@ -8,55 +8,42 @@ use borrow.Author.Needs.{needs}
 use Rattle.service.proofs.waking.look.Statement.{statement}
 use Rattle.service.proofs.waking.look.Tie as tie
 
--- src/waking.rt:63:16
 cast-slot : tie.Need-cast-slot
 cast-slot c = search needs
 
--- src/waking.rt:64:32
 sub-from : tie.Need-sub-from
 sub-from c = search needs
 
--- src/waking.rt:64:31
 cast-from : tie.Need-cast-from
 cast-from c = search needs
 
--- src/waking.rt:64:16
 mul-from : tie.Need-mul-from
 mul-from c = search needs
 
--- src/waking.rt:65:22
 cast-to : tie.Need-cast-to
 cast-to c = search needs
 
--- src/waking.rt:65:14
 add-to : tie.Need-add-to
 add-to c = search needs
 
--- src/waking.rt:67:17
 values-of-requires : tie.Need-values-of-requires
 values-of-requires c κs = search needs
 
--- src/waking.rt:68:22
 adjustments-of-requires : tie.Need-adjustments-of-requires
 adjustments-of-requires c κs = search needs
 
--- src/waking.rt:70:19
 sub-judge : tie.Need-sub-judge
 sub-judge c = search needs
 
--- src/waking.rt:70:19
 part-judge-start : tie.Need-part-judge-start
 part-judge-start c = search needs
 
--- src/waking.rt:70:19
 part-judge-end : tie.Need-part-judge-end
 part-judge-end c = search needs
 
--- src/waking.rt:70:5
 judge-requires : tie.Need-judge-requires
 judge-requires c κs = search needs
 
--- src/waking.rt:52:1
 returns : tie.Need-returns
 unfolding look valuesOf adjustmentsOf
 returns c =

@@ -21,35 +21,27 @@ Inv-loop slot touched marks line n m₀ i₀ m i =
 abbrev μ-loop : tie.MeasureT-loop
 μ-loop slot touched marks line n m₀ i₀ m i = n - i
 
--- src/waking.rt:170:5
 loop-holds : tie.Need-loop-holds Inv-loop μ-loop
 loop-holds c = (omega arith, refl)
 
--- src/waking.rt:171:21
 mul-place : tie.Need-mul-place Inv-loop μ-loop
 mul-place c = omega (arith, c .loop-test .taken, c .before .before .pre .few)
 
--- src/waking.rt:171:21
 element-copy-out-place : tie.Need-element-copy-out-place Inv-loop μ-loop
 element-copy-out-place c = omega (arith, c .loop-test .taken, c .before .before .pre .few)
 
--- src/waking.rt:172:12
 cast-if1 : tie.Need-cast-if1 Inv-loop μ-loop
 cast-if1 c = search needs
 
--- src/waking.rt:175:25
 bit-of-requires : tie.Need-bit-of-requires Inv-loop μ-loop
 bit-of-requires c κs = c .before .before .before .before .before .before .before .pre .process (c .before .before .before .before .before .before .loop .i) (c .before .before .before .before .before .loop-test .taken)
 
--- src/waking.rt:178:9
 add-i : tie.Need-add-i Inv-loop μ-loop
 add-i c = search needs
 
--- src/waking.rt:170:5
 loop-less : tie.Need-loop-less Inv-loop μ-loop
 loop-less c = search needs
 
--- src/waking.rt:170:5
 loop-again : tie.Need-loop-again Inv-loop μ-loop
 loop-again c =
     let a = c .before .before .before .before .loop in
@@ -66,7 +58,6 @@ loop-again c =
           (c .if1 .came),
     )
 
--- src/waking.rt:163:1
 returns : tie.Need-returns Inv-loop μ-loop
 returns c =
     let a = c .before .loop in

@@ -9,54 +9,42 @@ use borrow.Author.Needs.{needs}
 use Rattle.service.proofs.waking.settle.Statement.{statement}
 use Rattle.service.proofs.waking.settle.Tie as tie
 
--- src/waking.rt:89:17
 enum-told : tie.Need-enum-told
 enum-told c = search needs
 
--- src/waking.rt:90:24
 cast-slot : tie.Need-cast-slot
 cast-slot c = search needs
 
--- src/waking.rt:91:40
 sub-from : tie.Need-sub-from
 sub-from c = search needs
 
--- src/waking.rt:91:39
 cast-from : tie.Need-cast-from
 cast-from c = search needs
 
--- src/waking.rt:91:24
 mul-from : tie.Need-mul-from
 mul-from c = search needs
 
--- src/waking.rt:92:30
 cast-to : tie.Need-cast-to
 cast-to c = search needs
 
--- src/waking.rt:92:22
 add-to : tie.Need-add-to
 add-to c = search needs
 
--- src/waking.rt:94:62
 sub-apply : tie.Need-sub-apply
 sub-apply c = search needs
 
--- src/waking.rt:94:62
 part-apply-start : tie.Need-part-apply-start
 part-apply-start c = search needs
 
--- src/waking.rt:94:62
 part-apply-end : tie.Need-part-apply-end
 part-apply-end c = search needs
 
--- src/waking.rt:94:13
 apply-requires : tie.Need-apply-requires
 apply-requires c κs =
     let a = c .before .before .before .before .before .before .before .before .before .before in
     let size : arrayBytes * (a .args .place .process - 1) + a .args .place .size - arrayBytes * (a .args .place .process - 1) ≡ a .args .place .size = omega arith in
     (a .pre .1 .slot, (a .pre .1 .process, rw size (a .pre .1 .numbered)))
 
--- src/waking.rt:74:1
 returns : tie.Need-returns
 unfolding after
 returns c =
@@ -64,7 +52,6 @@ returns c =
     let size : arrayBytes * (a .args .place .process - 1) + a .args .place .size - arrayBytes * (a .args .place .process - 1) ≡ a .args .place .size = omega arith in
     rw (c .before .before .before .before .before .before .before .before .enum-told .given .1) (rw size at (c .apply .ensures))
 
--- src/waking.rt:74:1
 returns-2 : tie.Need-returns-2
 returns-2 c = after-stays _ _ _ _ (c .match .keys2)
 

@@ -5,43 +5,33 @@ use borrow.Author.Needs.{needs}
 use Rattle.service.proofs.waking.wake.Statement.{statement}
 use Rattle.service.proofs.waking.wake.Tie as tie
 
--- src/waking.rt:262:43
 enum-told : tie.Need-enum-told
 enum-told c = search needs
 
--- src/waking.rt:262:26
 wake-plain-requires : tie.Need-wake-plain-requires
 wake-plain-requires c κs = search needs
 
--- src/waking.rt:264:17
 enum-told-2 : tie.Need-enum-told-2
 enum-told-2 c = search needs
 
--- src/waking.rt:265:17
 mark-touched-requires : tie.Need-mark-touched-requires
 mark-touched-requires c κs = peopled _ (c .before .before .before .before .pre .1 .0)
 
--- src/waking.rt:267:17
 returns : tie.Need-returns
 returns c = wakes-nobody _ _ _ _ (c .before .before .before .before .before .before .pre .1 .0) (c .before .before .before .enum-told2 .given .1) _ (c .before .mark-touched .ensures) (c .if1 .taken)
 
--- src/waking.rt:269:13
 wake-quick-requires : tie.Need-wake-quick-requires
 wake-quick-requires c κs = search needs
 
--- src/waking.rt:246:1
 same-length : tie.Need-same-length
 same-length c = search needs
 
--- src/waking.rt:246:1
 returns-2 : tie.Need-returns-2
 returns-2 c = wakes-plain _ _ _ _ (c .before .before .before .before .before .before .before .enum-told .given .1) (c .before .before .wake-plain .ensures)
 
--- src/waking.rt:246:1
 same-length-2 : tie.Need-same-length-2
 same-length-2 c = search needs
 
--- src/waking.rt:246:1
 returns-3 : tie.Need-returns-3
 returns-3 c = wakes-quick _ _ _ _ (c .before .before .before .before .before .before .before .before .before .before .before .before .before .pre .1 .0) (c .before .before .before .before .before .before .before .before .before .before .enum-told2 .given .1) _ (c .before .before .before .before .before .before .before .before .mark-touched .ensures) (c .before .before .wake-quick .ensures)
 

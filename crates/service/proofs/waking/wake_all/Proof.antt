@@ -19,37 +19,29 @@ abbrev μ-loop : tie.MeasureT-loop
 μ-loop engine values₀ lasts₀ adjustments₀ arrays₀ sets touched w₀ slot₀ values lasts adjustments arrays w slot =
     slots - slot
 
--- src/waking.rt:291:5
 loop-holds : tie.Need-loop-holds Inv-loop μ-loop
 loop-holds c = walk-first _ _ _ _ _ (c .before .pre .1 .1) (c .before .pre .0)
 
--- src/waking.rt:292:19
 mul-set : tie.Need-mul-set Inv-loop μ-loop
 mul-set c = search needs
 
--- src/waking.rt:292:19
 array-copy-out-set : tie.Need-array-copy-out-set Inv-loop μ-loop
 array-copy-out-set c = search needs
 
--- src/waking.rt:297:17
 array-read-wake : tie.Need-array-read-wake Inv-loop μ-loop
 array-read-wake c = search needs
 
--- src/waking.rt:294:13
 wake-requires : tie.Need-wake-requires Inv-loop μ-loop
 wake-requires c κs =
     let a = c .before .before .before .before .before .before .before .before .loop in
     (c .before .before .before .before .before .before .before .loop-test .taken, (a .inv .ready, omega (arith, a .inv .few, a .inv .within)))
 
--- src/waking.rt:305:9
 add-slot : tie.Need-add-slot Inv-loop μ-loop
 add-slot c = search needs
 
--- src/waking.rt:291:5
 loop-less : tie.Need-loop-less Inv-loop μ-loop
 loop-less c = search needs
 
--- src/waking.rt:291:5
 loop-again : tie.Need-loop-again Inv-loop μ-loop
 loop-again c =
     let a = c .before .before .before .before .loop in
@@ -60,11 +52,9 @@ loop-again c =
     (λ v. rw (v .1, v .2, v .3, v .4, v .5) (walk-free _ _ _ _ (a .slot) _ _ (a .inv) (s .pre .1 .0) t (v .0 .left)))
     (c .if1 .came)
 
--- src/waking.rt:275:1
 same-length : tie.Need-same-length Inv-loop μ-loop
 same-length c = is-arrays _ (c .before .loop .inv .ready) ∙ sym (is-arrays _ (c .before .before .before .pre .0))
 
--- src/waking.rt:275:1
 returns : tie.Need-returns Inv-loop μ-loop
 returns c = walk-done _ _ _ _ _ _ _ (c .before .loop .inv) (c .before .before .before .pre .1 .0) (c .loop-test .left)
 

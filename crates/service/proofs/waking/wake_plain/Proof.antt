@@ -32,42 +32,33 @@ Inv-rounds slot values₀ lasts₀ adjustments₀ arrays₀ w₀ values lasts ad
 abbrev μ-rounds : tie.MeasureT-rounds
 μ-rounds slot values₀ lasts₀ adjustments₀ arrays₀ w₀ values lasts adjustments arrays w = w .line .asleep
 
--- src/waking.rt:131:5
 rounds-holds : tie.Need-rounds-holds Inv-loop μ-loop Inv-rounds μ-rounds
 rounds-holds c = (begun _ _ (c .before .pre .0), refl)
 
--- src/waking.rt:136:9
 loop-holds : tie.Need-loop-holds Inv-loop μ-loop Inv-rounds μ-rounds
 loop-holds c = (refl, refl, refl, refl, refl, plain-first _ _ _)
 
--- src/waking.rt:137:25
 mul-place : tie.Need-mul-place Inv-loop μ-loop Inv-rounds μ-rounds
 mul-place c = omega (arith, asleep-few _ (c .before .before .before .rounds .inv .0 .ready), c .loop-test .taken)
 
--- src/waking.rt:137:25
 element-copy-out-place : tie.Need-element-copy-out-place Inv-loop μ-loop Inv-rounds μ-rounds
 element-copy-out-place c = omega (arith, asleep-few _ (c .before .before .before .rounds .inv .0 .ready), c .loop-test .taken)
 
--- src/waking.rt:138:16
 cast-if1 : tie.Need-cast-if1 Inv-loop μ-loop Inv-rounds μ-rounds
 cast-if1 c = search needs
 
--- src/waking.rt:139:17
 add-looks : tie.Need-add-looks Inv-loop μ-loop Inv-rounds μ-rounds
 add-looks c = search needs
 
--- src/waking.rt:140:21
 look-requires : tie.Need-look-requires Inv-loop μ-loop Inv-rounds μ-rounds
 look-requires c κs =
     let o = c .before .before .before .before .before .before .before .before .before .rounds in
     let a = c .before .before .before .before .before .before .before .loop in
     rw (a .inv .3) (is-arrays _ (o .inv .0 .ready), the-placed _ (o .inv .0 .ready) (a .i) (c .before .before .before .before .before .before .loop-test .taken))
 
--- src/waking.rt:142:20
 finishes-requires : tie.Need-finishes-requires Inv-loop μ-loop Inv-rounds μ-rounds
 finishes-requires c κs = search needs
 
--- src/waking.rt:143:21
 finish-requires : tie.Need-finish-requires Inv-loop μ-loop Inv-rounds μ-rounds
 finish-requires c κs =
     let o = c .before .before .before .before .before .before .before .before .before .before .before .before .before .before .before .before .rounds in
@@ -91,23 +82,18 @@ next c =
     plain-again-here _ _ (o .inv .0 .ready) _ (a .i) (a .looks) (a .inv .5) (c .before .before .before .before .before .before .before .before .before .before .before .before .before .before .before .before .loop-test .taken) (c .before .before .before .before .before .before .before .before .before .before .before .before .before .if1 .taken) (c .before .before .before .before .before .before .before .before .before .look .result) (rw (a .inv .0, a .inv .2, a .inv .3) at (c .before .before .before .before .before .before .before .before .before .look .ensures))
     _ (o .inv .0) (sym (c .before .before .before .before .before .before .before .before .finishes .ensures) ∙ c .before .before .before .before .before .before .before .if2 .taken) (rw (a .inv .0, a .inv .1, a .inv .2, a .inv .3, a .inv .4) at (c .before .before .finish .ensures))
 
--- src/waking.rt:131:5
 rounds-less : tie.Need-rounds-less Inv-loop μ-loop Inv-rounds μ-rounds
 rounds-less c = next c .fewer
 
--- src/waking.rt:131:5
 rounds-again : tie.Need-rounds-again Inv-loop μ-loop Inv-rounds μ-rounds
 rounds-again c = (next c .begins, next c .same ∙ c .before .before .before .before .before .before .before .before .before .before .before .before .before .before .before .before .before .before .before .rounds .inv .1)
 
--- src/waking.rt:156:13
 add-i : tie.Need-add-i Inv-loop μ-loop Inv-rounds μ-rounds
 add-i c = search needs
 
--- src/waking.rt:136:9
 loop-less : tie.Need-loop-less Inv-loop μ-loop Inv-rounds μ-rounds
 loop-less c = search needs
 
--- src/waking.rt:136:9
 loop-again : tie.Need-loop-again Inv-loop μ-loop Inv-rounds μ-rounds
 loop-again c =
     let o = c .before .before .before .before .before .before .rounds in
@@ -124,11 +110,9 @@ loop-again c =
           (c .if1 .came),
     )
 
--- src/waking.rt:159:9
 same-length : tie.Need-same-length Inv-loop μ-loop Inv-rounds μ-rounds
 same-length c = ap length (c .before .loop .inv .3) ∙ is-arrays _ (c .before .before .before .rounds .inv .0 .ready) ∙ sym (is-arrays _ (c .before .before .before .before .before .pre .0))
 
--- src/waking.rt:159:9
 returns : tie.Need-returns Inv-loop μ-loop Inv-rounds μ-rounds
 returns c =
     let o = c .before .before .before .rounds in

@@ -31,50 +31,39 @@ abbrev μ-rounds : tie.MeasureT-rounds
 μ-rounds slot first values₀ lasts₀ adjustments₀ arrays₀ w₀ marks₀ values lasts adjustments arrays w marks =
     w .line .asleep
 
--- src/waking.rt:201:5
 rounds-holds : tie.Need-rounds-holds Inv-loop μ-loop Inv-rounds μ-rounds
 rounds-holds c = (begun _ _ (c .before .pre .1 .0), refl)
 
--- src/waking.rt:206:9
 loop-holds : tie.Need-loop-holds Inv-loop μ-loop Inv-rounds μ-rounds
 loop-holds c = (refl, refl, refl, refl, refl, quick-first _ _ _ _)
 
--- src/waking.rt:207:25
 mul-place : tie.Need-mul-place Inv-loop μ-loop Inv-rounds μ-rounds
 mul-place c = omega (arith, asleep-few _ (c .before .before .before .rounds .inv .0 .ready), c .loop-test .taken)
 
--- src/waking.rt:207:25
 element-copy-out-place : tie.Need-element-copy-out-place Inv-loop μ-loop Inv-rounds μ-rounds
 element-copy-out-place c = omega (arith, asleep-few _ (c .before .before .before .rounds .inv .0 .ready), c .loop-test .taken)
 
--- src/waking.rt:208:16
 cast-if1 : tie.Need-cast-if1 Inv-loop μ-loop Inv-rounds μ-rounds
 cast-if1 c = search needs
 
--- src/waking.rt:209:21
 bit-of-requires : tie.Need-bit-of-requires Inv-loop μ-loop Inv-rounds μ-rounds
 bit-of-requires c κs = the-placed _ (c .before .before .before .before .before .before .rounds .inv .0 .ready) (c .before .before .before .before .loop .i) (c .before .before .before .loop-test .taken) .process
 
--- src/waking.rt:213:21
 add-looks : tie.Need-add-looks Inv-loop μ-loop Inv-rounds μ-rounds
 add-looks c = search needs
 
--- src/waking.rt:214:25
 look-requires : tie.Need-look-requires Inv-loop μ-loop Inv-rounds μ-rounds
 look-requires c κs =
     let o = c .before .before .before .before .before .before .before .before .before .before .before .rounds in
     let a = c .before .before .before .before .before .before .before .before .before .loop in
     rw (a .inv .3) (is-arrays _ (o .inv .0 .ready), the-placed _ (o .inv .0 .ready) (a .i) (c .before .before .before .before .before .before .before .before .loop-test .taken))
 
--- src/waking.rt:216:24
 finishes-requires : tie.Need-finishes-requires Inv-loop μ-loop Inv-rounds μ-rounds
 finishes-requires c κs = search needs
 
--- src/waking.rt:217:29
 values-of-requires : tie.Need-values-of-requires Inv-loop μ-loop Inv-rounds μ-rounds
 values-of-requires c κs = c .before .before .before .before .before .before .before .before .before .before .before .before .before .before .before .before .before .pre .0
 
--- src/waking.rt:218:25
 finish-requires : tie.Need-finish-requires Inv-loop μ-loop Inv-rounds μ-rounds
 finish-requires c κs =
     let o = c .before .before .before .before .before .before .before .before .before .before .before .before .before .before .before .before .before .before .before .before .rounds in
@@ -82,15 +71,12 @@ finish-requires c κs =
     rw (a .inv .0, a .inv .1, a .inv .2, a .inv .3, a .inv .4)
     (record { ready = o .inv .0 .ready; there = c .before .before .before .before .before .before .before .before .before .before .before .before .before .before .before .before .before .loop-test .taken; judges = rw (a .inv .0, a .inv .2, a .inv .3) at (c .before .before .before .before .before .before .before .before .look .ensures) })
 
--- src/waking.rt:228:62
 values-of-requires-2 : tie.Need-values-of-requires-2 Inv-loop μ-loop Inv-rounds μ-rounds
 values-of-requires-2 c κs = c .before .before .before .before .before .before .before .before .before .before .before .before .before .before .before .before .before .before .before .before .before .before .before .before .before .before .pre .0
 
--- src/waking.rt:228:29
 differing-mask-requires : tie.Need-differing-mask-requires Inv-loop μ-loop Inv-rounds μ-rounds
 differing-mask-requires c κs = search needs
 
--- src/waking.rt:230:25
 mark-touched-requires : tie.Need-mark-touched-requires Inv-loop μ-loop Inv-rounds μ-rounds
 mark-touched-requires c κs =
     let o = c .before .before .before .before .before .before .before .before .before .before .before .before .before .before .before .before .before .before .before .before .before .before .before .before .before .before .before .rounds in
@@ -118,23 +104,18 @@ next c =
     (c .before .before .before .before .before .before .before .before .before .before .before .before .values-of .result) (c .before .before .before .values-of2 .result) (rw (a .inv .0) at (c .before .before .before .before .before .before .before .before .before .before .before .before .values-of .ensures)) (c .before .before .before .values-of2 .ensures)
     (c .mark-touched .result) (rw (c .before .before .differing-mask .ensures) at (c .mark-touched .ensures))
 
--- src/waking.rt:201:5
 rounds-less : tie.Need-rounds-less Inv-loop μ-loop Inv-rounds μ-rounds
 rounds-less c = next c .fewer
 
--- src/waking.rt:201:5
 rounds-again : tie.Need-rounds-again Inv-loop μ-loop Inv-rounds μ-rounds
 rounds-again c = (next c .begins, next c .same ∙ c .before .before .before .before .before .before .before .before .before .before .before .before .before .before .before .before .before .before .before .before .before .before .before .before .before .before .before .before .rounds .inv .1)
 
--- src/waking.rt:235:13
 add-i : tie.Need-add-i Inv-loop μ-loop Inv-rounds μ-rounds
 add-i c = search needs
 
--- src/waking.rt:206:9
 loop-less : tie.Need-loop-less Inv-loop μ-loop Inv-rounds μ-rounds
 loop-less c = search needs
 
--- src/waking.rt:206:9
 loop-again : tie.Need-loop-again Inv-loop μ-loop Inv-rounds μ-rounds
 loop-again c =
     let o = c .before .before .before .before .before .before .rounds in
@@ -155,11 +136,9 @@ loop-again c =
           (c .if1 .came),
     )
 
--- src/waking.rt:238:9
 same-length : tie.Need-same-length Inv-loop μ-loop Inv-rounds μ-rounds
 same-length c = ap length (c .before .loop .inv .3) ∙ is-arrays _ (c .before .before .before .rounds .inv .0 .ready) ∙ sym (is-arrays _ (c .before .before .before .before .before .pre .1 .0))
 
--- src/waking.rt:238:9
 returns : tie.Need-returns Inv-loop μ-loop Inv-rounds μ-rounds
 returns c =
     let o = c .before .before .before .rounds in

@@ -22,41 +22,32 @@ host s = hostWith (s .args .sets) (now (s .args .values)) (now (s .args .lasts))
 none : (c : tie.Else1) → checkProcess (c .before .before .before .args .process) ≡ 0
 none c = sym (c .before .check-process .ensures) ∙ c .if1 .left
 
--- src/exiting.rt:39:9
 check-process-requires : tie.Need-check-process-requires
 check-process-requires c κs = search needs
 
--- src/exiting.rt:42:19
 answer-requires : tie.Need-answer-requires
 answer-requires c κs = search needs
 
--- src/exiting.rt:46:26
 no-wakings-requires : tie.Need-no-wakings-requires
 no-wakings-requires c κs = search needs
 
--- src/exiting.rt:41:9
 returns : tie.Need-returns
 unfolding doExit
 returns c =
     told-refused (host (c .before .before .before .before .before)) (c .before .before .before .before .before .pre) _ _ (c .before .before .before .check-process .ensures) (c .before .before .if1 .taken) (toZ-ofZ (record { sfits = c .before .answer .ok }) ∙ c .before .answer .ensures) refl refl (c .no-wakings .ensures)
 
--- src/exiting.rt:52:15
 leave-requires : tie.Need-leave-requires
 leave-requires c κs = held-lined (host (c .before .before .before .before .before)) (c .before .before .before .before .before .pre)
 
--- src/exiting.rt:54:18
 no-wakings-requires-2 : tie.Need-no-wakings-requires-2
 no-wakings-requires-2 c κs = search needs
 
--- src/exiting.rt:56:5
 undo-all-requires : tie.Need-undo-all-requires
 undo-all-requires c κs = exit-process _ (none (c .before .before .before .before .before .before .before .before))
 
--- src/exiting.rt:57:9
 touched-by-exit-requires : tie.Need-touched-by-exit-requires
 touched-by-exit-requires c κs = search needs
 
--- src/exiting.rt:58:9
 wake-all-requires : tie.Need-wake-all-requires
 wake-all-requires c κs =
     let s = c .before .before .before .before .before .before .before .before .before .before .before .before .before .before .before .before .before .before .before in (
@@ -64,11 +55,9 @@ wake-all-requires c κs =
       (ap length (c .before .before .before .before .touched-by-exit .ensures [] [] [] []) ∙ touched-size _ _, refl),
     )
 
--- src/exiting.rt:26:1
 same-length : tie.Need-same-length
 same-length c = search needs
 
--- src/exiting.rt:26:1
 returns-2 : tie.Need-returns-2
 returns-2 c =
     let s = c .before .before .before .before .before .before .before .before .before .before .before .before .before .before .before .before .before .before .before .before .before .before in

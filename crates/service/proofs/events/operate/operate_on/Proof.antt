@@ -42,59 +42,46 @@ table : (c : tie.After-apply) → tableOf (c .apply .last .0) (c .apply .last .1
     ≡ applied (stateOf (host (c .before .before .before .before .before .before .before .before .before .before .before .before .before .before .before .before .before .before)) .table) (call (c .before .before .before .before .before .before .before .before .before .before .before .before .before .before .before .before .before .before .args .process) (c .before .before .before .before .before .before .before .before .before .before .before .before .before .before .before .before .before .before .args .identifier) (now (c .before .before .before .before .before .before .before .before .before .before .before .before .before .before .before .before .before .before .args .bytes))) (c .before .before .before .before .before .before .before .judge .result .copies)
 table c = rw (slot (c .before .before .before .before .before .before .before .before .before .before .before .before)) at (c .apply .ensures)
 
--- src/operating.rt:54:18
 no-wakings-requires : tie.Need-no-wakings-requires
 no-wakings-requires c κs = search needs
 
--- src/operating.rt:56:9
 check-operate-requires : tie.Need-check-operate-requires
 check-operate-requires c κs = held-few (host (c .before .before .before)) (c .before .before .before .pre)
 
--- src/operating.rt:59:19
 answer-requires : tie.Need-answer-requires
 answer-requires c κs = search needs
 
--- src/operating.rt:58:9
 returns : tie.Need-returns
 unfolding doOperate
 returns c =
     told-refused (host (c .before .before .before .before .before .before)) (c .before .before .before .before .before .before .pre) _ _ (code (c .before .before)) (c .before .if1 .taken) (toZ-ofZ (record { sfits = c .answer .ok }) ∙ c .answer .ensures) refl refl (c .before .before .before .no-wakings .ensures)
 
--- src/operating.rt:63:9
 slot-of-requires : tie.Need-slot-of-requires
 slot-of-requires c κs = search needs
 
--- src/operating.rt:64:9
 values-of-requires : tie.Need-values-of-requires
 values-of-requires c κs = slot-fits (c .before)
 
--- src/operating.rt:67:22
 adjustments-of-requires : tie.Need-adjustments-of-requires
 adjustments-of-requires c κs = (slot-fits (c .before .before .before), call-process (host (c .before .before .before .before .before .before .before .before .before)) (c .before .before .before .before .before .before .before .before .before .pre) _ _ _ (none (c .before .before .before .before)))
 
--- src/operating.rt:69:9
 judge-requires : tie.Need-judge-requires
 judge-requires c κs = search needs
 
--- src/operating.rt:73:17
 enum-told : tie.Need-enum-told
 enum-told c = search needs
 
--- src/operating.rt:74:13
 apply-requires : tie.Need-apply-requires
 apply-requires c κs =
     let s = c .before .before .before .before .before .before .before .before .before .before .before .before .before .before .before .before .before in
     (slot-fits (c .before .before .before .before .before .before .before .before .before .before .before), (call-process (host s) (s .pre) _ _ _ (none (c .before .before .before .before .before .before .before .before .before .before .before .before)), call-numbered (host s) (s .pre) _ _ _ (none (c .before .before .before .before .before .before .before .before .before .before .before .before))))
 
--- src/operating.rt:75:50
 values-of-requires-2 : tie.Need-values-of-requires-2
 values-of-requires-2 c κs = slot-fits (c .before .before .before .before .before .before .before .before .before .before .before .before .before)
 
--- src/operating.rt:75:17
 differing-mask-requires : tie.Need-differing-mask-requires
 differing-mask-requires c κs = search needs
 
--- src/operating.rt:76:17
 wake-requires : tie.Need-wake-requires
 wake-requires c κs =
     let s = c .before .before .before .before .before .before .before .before .before .before .before .before .before .before .before .before .before .before .before .before .before .before .before .before .before in (
@@ -102,63 +89,50 @@ wake-requires c κs =
       (done-ready (host s) (s .pre) _ _ _ (none (c .before .before .before .before .before .before .before .before .before .before .before .before .before .before .before .before .before .before .before .before)) (s .args .engine) _ (looked (c .before .before .before .before .before .before .before .before .before .before .before .before .before .before)) (record { line = s .args .line; looks = 0; wakings = c .before .before .before .before .before .before .before .before .before .before .before .before .before .before .before .before .before .before .before .before .before .before .no-wakings .result }) refl (c .before .before .before .before .before .before .before .before .before .before .before .before .before .before .before .before .before .before .before .before .before .before .no-wakings .ensures) (table (c .before .before .before .before .before .before .before)), omega arith),
     )
 
--- src/operating.rt:83:25
 enum-told-2 : tie.Need-enum-told-2
 enum-told-2 c = search needs
 
--- src/operating.rt:83:13
 store-array-requires : tie.Need-store-array-requires
 store-array-requires c κs =
     let s = c .before .before .before .before .before .before .before .before .before .before .before .before .before .before in
     let n = none (c .before .before .before .before .before .before .before .before .before) in
     (held-bytes (host s) (s .pre), (call-process (host s) (s .pre) _ _ _ n, call-fits (host s) (s .pre) _ _ _ n .short))
 
--- src/operating.rt:86:23
 cast-t43 : tie.Need-cast-t43
 cast-t43 c = record { fits = omega (arith, slot-fits (c .before .before .before .before .before .before .before .before .before .before .before)) }
 
--- src/operating.rt:87:23
 cast-t45 : tie.Need-cast-t45
 cast-t45 c = record { fits = omega (arith, call-fits (host (c .before .before .before .before .before .before .before .before .before .before .before .before .before .before .before .before .before)) (c .before .before .before .before .before .before .before .before .before .before .before .before .before .before .before .before .before .pre) _ _ _ (none (c .before .before .before .before .before .before .before .before .before .before .before .before)) .short) }
 
--- src/operating.rt:88:24
 names-of-requires : tie.Need-names-of-requires
 names-of-requires c κs = call-numbered (host (c .before .before .before .before .before .before .before .before .before .before .before .before .before .before .before .before .before)) (c .before .before .before .before .before .before .before .before .before .before .before .before .before .before .before .before .before .pre) _ _ _ (none (c .before .before .before .before .before .before .before .before .before .before .before .before))
 
--- src/operating.rt:93:27
 join-requires : tie.Need-join-requires
 join-requires c κs = call-room (host (c .before .before .before .before .before .before .before .before .before .before .before .before .before .before .before .before .before .before)) (c .before .before .before .before .before .before .before .before .before .before .before .before .before .before .before .before .before .before .pre) _ _ _ (none (c .before .before .before .before .before .before .before .before .before .before .before .before .before))
 
--- src/operating.rt:95:30
 no-wakings-requires-2 : tie.Need-no-wakings-requires-2
 no-wakings-requires-2 c κs = search needs
 
--- src/operating.rt:100:19
 code-of-requires : tie.Need-code-of-requires
 code-of-requires c κs = search needs
 
--- src/operating.rt:36:1
 same-length : tie.Need-same-length
 same-length c = search needs
 
--- src/operating.rt:36:1
 returns-2 : tie.Need-returns-2
 returns-2 c =
     let s = c .before .before .before .before .before .before .before .before .before .before .before .before .before .before .before .before .before .before .before .before .before .before .before .before .before .before .before .before in
     done-told (host s) (s .pre) _ _ _ (none (c .before .before .before .before .before .before .before .before .before .before .before .before .before .before .before .before .before .before .before .before .before .before .before)) (s .args .engine) _ (looked (c .before .before .before .before .before .before .before .before .before .before .before .before .before .before .before .before .before)) (record { line = s .args .line; looks = 0; wakings = c .before .before .before .before .before .before .before .before .before .before .before .before .before .before .before .before .before .before .before .before .before .before .before .before .before .no-wakings .result }) refl (c .before .before .before .before .before .before .before .before .before .before .before .before .before .before .before .before .before .before .before .before .before .before .before .before .before .no-wakings .ensures) (table (c .before .before .before .before .before .before .before .before .before .before)) _
     (c .before .before .before .before .before .before .before .before .before .before .before .before .before .before .before .enum-told .given .1) (slot (c .before .before .before .before .before .before .before .before .before .before .before .before .before .before .before .before .before .before .before .before .before .before)) (c .before .before .before .before .before .before .before .before .before .before .before .before .before .before .before .before .before .before .before .before .values-of .ensures) (c .before .before .before .before .before .before .before .before .values-of2 .ensures) (c .before .before .before .before .before .before .before .differing-mask .ensures) refl refl (c .before .before .wake .ensures)
 
--- src/operating.rt:36:1
 same-length-2 : tie.Need-same-length-2
 same-length-2 c = search needs
 
--- src/operating.rt:36:1
 returns-3 : tie.Need-returns-3
 returns-3 c =
     let s = c .before .before .before .before .before .before .before .before .before .before .before .before .before .before .before .before .before .before .before .before in
     sleep-told (host s) (s .pre) _ _ _ (none (c .before .before .before .before .before .before .before .before .before .before .before .before .before .before .before)) (s .args .engine) _ (looked (c .before .before .before .before .before .before .before .before .before)) _ (c .before .before .before .before .before .before .before .enum-told2 .given .1) (rw (slot (c .before .before .before .before .before .before .before .before .before .before .before .before .before .before), c .before .before .names-of .ensures)) refl (c .before .join .ensures) refl (c .no-wakings2 .ensures) (c .before .before .before .before .before .store-array .ensures)
 
--- src/operating.rt:36:1
 returns-4 : tie.Need-returns-4
 returns-4 c =
     let s = c .before .before .before .before .before .before .before .before .before .before .before .before .before in

@@ -2,7 +2,6 @@
 use Prim.Native.Nat.{_+_, _*_, _<_}
 use native.Mathlib.Omega.{arith}
 use mathlib.Core.Path.{_≡_, refl, sym, _∙_}
-use mir.Syntax.{w32}
 use mir.Facts.{toZ-ofZ}
 use borrow.Author.Needs.{needs}
 use Rattle.model.specs.Limits.{semaphores, allSemaphores}
@@ -34,15 +33,14 @@ place-small c =
 check-number-requires : tie.Need-check-number-requires
 check-number-requires c κs = search needs
 
-answer-requires : tie.Need-answer-requires
-answer-requires c κs = search needs
+refused-requires : tie.Need-refused-requires
+refused-requires c κs = search needs
 
 returns : tie.Need-returns
 returns c =
     let d = c .before .before in
     let s = d .before .before .before .before .before .before .before in
-    let code = toZ-ofZ {w = w32} {z = c .answer .result} (record { sfits = c .answer .ok }) in
-    rw (code, c .answer .ensures) (query-refused (s .args .h) (s .pre) (s .args .identifier) (s .args .number) (code-is d) (c .before .if1 .taken))
+    c .refused .ensures ∙ query-refused (s .args .h) (s .pre) (s .args .identifier) (s .args .number) (code-is d) (c .before .if1 .taken)
 
 slot-of-requires : tie.Need-slot-of-requires
 slot-of-requires c κs = search needs
@@ -80,7 +78,7 @@ query-spec =
     tie.close
     (tie.spec
     check-number-requires
-    answer-requires
+    refused-requires
     returns
     slot-of-requires
     mul-at

@@ -8,7 +8,6 @@ use mir.Facts.{toZ-ofZ}
 use borrow.Author.Needs.{needs}
 use lib.ListN.{set}
 use Rattle.model.specs.Limits.{slots}
-use Rattle.model.specs.State.{freeSet}
 use Rattle.model.specs.Checks.{slotOf, checkRemove}
 use Rattle.model.specs.Layout.{stateOf}
 use Rattle.service.proofs.CheckLaws.{slot-within}
@@ -45,8 +44,8 @@ mul-set c = omega (arith, slot-small c)
 array-copy-out-set : tie.Need-array-copy-out-set
 array-copy-out-set c = slot-small c
 
-wrapping-add-u16-requires : tie.Need-wrapping-add-u16-requires
-wrapping-add-u16-requires c κs = search needs
+freed-requires : tie.Need-freed-requires
+freed-requires c κs = search needs
 
 mul-sets : tie.Need-mul-sets
 mul-sets c = omega (arith, slot-small (c .before .before))
@@ -76,7 +75,7 @@ returns c =
     ⊎-elim
     (λ v. rw (code, c .answer .ensures, v .12, v .13, v .14, v .15, v .16)
     (removed (s .args .h) (s .pre) (s .args .identifier) (code-is d) (v .0 .taken) (slot-is (record { before = record { before = d; if1 = v .0 }; slot-of = v .1 }))
-    (v .11 ∙ ap (λ g. set (s .args .h .sets) (v .1 .result) (freeSet g)) (v .3 .ensures)) (v .7 .ensures) (v .9 .ensures)))
+    (v .11 ∙ ap (λ g. set (s .args .h .sets) (v .1 .result) g) (v .3 .ensures)) (v .7 .ensures) (v .9 .ensures)))
     (λ v. rw (code, c .answer .ensures, v .1, v .2, v .3, v .4, v .5, v .6, d .before .no-wakings .ensures)
     (remove-refused (s .args .h) (s .pre) (s .args .identifier) (code-is d) (v .0 .left)))
     (c .before .before .before .if1 .came)
@@ -90,7 +89,7 @@ remove-spec =
     slot-of-requires
     mul-set
     array-copy-out-set
-    wrapping-add-u16-requires
+    freed-requires
     mul-sets
     array-set-from-sets
     clear-slot-requires

@@ -40,47 +40,37 @@ table c =
     let v : valueOf (toZ w32 (ofZ w32 (s .args .value))) ≡ natAbs (s .args .value) = ap valueOf (toZ-ofZ (s .fits .value)) ∙ value-kept (stateOf (host s)) (s .args .identifier) (s .args .number) (s .args .value) (none (c .before .before .before .before .before)) in
     rw (slot (c .before .before .before .before), c .before .value-of .ensures, v) at (c .assign .ensures (now (s .args .lasts)))
 
--- src/setting.rt:44:18
 no-wakings-requires : tie.Need-no-wakings-requires
 no-wakings-requires c κs = search needs
 
--- src/setting.rt:46:9
 check-set-value-requires : tie.Need-check-set-value-requires
 check-set-value-requires c κs = search needs
 
--- src/setting.rt:49:19
 answer-requires : tie.Need-answer-requires
 answer-requires c κs = search needs
 
--- src/setting.rt:48:9
 returns : tie.Need-returns
 unfolding doSetValue
 returns c =
     told-refused (host (c .before .before .before .before .before)) (c .before .before .before .before .before .pre) _ _ (code (c .before .before)) (c .before .if1 .taken) (toZ-ofZ (record { sfits = c .answer .ok }) ∙ c .answer .ensures) refl refl (c .before .before .before .no-wakings .ensures)
 
--- src/setting.rt:53:9
 slot-of-requires : tie.Need-slot-of-requires
 slot-of-requires c κs = search needs
 
--- src/setting.rt:55:55
 value-of-requires : tie.Need-value-of-requires
 value-of-requires c κs = search needs
 
--- src/setting.rt:55:5
 assign-requires : tie.Need-assign-requires
 assign-requires c κs =
     let s = c .before .before .before .before .before .before .before .before in
     (rw (slot (c .before .before .before)) (set-passed (host s) (s .pre) _ _ _ (none (c .before .before .before .before)) .numbered .slot), set-number (host s) (s .pre) _ _ _ (none (c .before .before .before .before)))
 
--- src/setting.rt:56:26
 cast-touched : tie.Need-cast-touched
 cast-touched c = omega (arith, set-number (host (c .before .before .before .before .before .before .before .before .before)) (c .before .before .before .before .before .before .before .before .before .pre) _ _ _ (none (c .before .before .before .before .before)))
 
--- src/setting.rt:56:19
 shl-touched : tie.Need-shl-touched
 shl-touched c = omega (arith, set-number (host (c .before .before .before .before .before .before .before .before .before)) (c .before .before .before .before .before .before .before .before .before .pre) _ _ _ (none (c .before .before .before .before .before)))
 
--- src/setting.rt:57:9
 wake-requires : tie.Need-wake-requires
 wake-requires c κs =
     let s = c .before .before .before .before .before .before .before .before .before .before .before .before .before in (
@@ -88,11 +78,9 @@ wake-requires c κs =
       (set-ready (host s) (s .pre) _ _ _ (none (c .before .before .before .before .before .before .before .before .before)) (record { line = s .args .line; looks = 0; wakings = c .before .before .before .before .before .before .before .before .before .before .before .no-wakings .result }) refl (c .before .before .before .before .before .before .before .before .before .before .before .no-wakings .ensures) (table (c .before .before .before .before)), omega arith),
     )
 
--- src/setting.rt:26:1
 same-length : tie.Need-same-length
 same-length c = search needs
 
--- src/setting.rt:26:1
 returns-2 : tie.Need-returns-2
 returns-2 c =
     let s = c .before .before .before .before .before .before .before .before .before .before .before .before .before .before .before .before in
