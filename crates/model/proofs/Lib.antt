@@ -22,3 +22,4 @@ pub mod EventLaws
 pub mod WakingEvents
 pub mod Engines
 pub mod Situations
+pub mod Held

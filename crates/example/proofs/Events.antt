@@ -1,0 +1,43 @@
+-- The example's three events by the definitions: a set is made, a process sleeps, another wakes it with one look.
+use mathlib.Core.Path.{_≡_, refl}
+use mathlib.Core.List.{[], _∷_}
+use lib.IntN.{pos}
+use lib.ListN.{length}
+use Rattle.model.specs.declared.Engine.the-variants.{Quick}
+use Rattle.model.specs.State.{State, freshState}
+use Rattle.model.specs.Runs.{Reached, start, came}
+use Rattle.model.specs.Operation.{signed16, operationsFrom, isZero}
+use Rattle.model.specs.Judge.{nextValue, nextAdjustment, step, goOn, judgeFrom, codeOf, finishes}
+use Rattle.model.specs.Look.{valuesOf, adjustmentsOf, look, lastsAfter, applied, after}
+use Rattle.model.specs.Marks.{unmark, marked, namedBy, differing, mine, maskOf}
+use Rattle.model.specs.Waking.{without, finish, plainRound, quickRound, plain, quick, waker}
+use Rattle.model.specs.Checks.{identifierOf, slotOf, namesSet, noProcess, asleep, numberTooHigh, permitted, freeFrom, checkCreate, checkOperate, checkNumber, inRange, checkSetValue, checkRemove, checkProcess}
+use Rattle.model.specs.Events.{Result, create, operate, clearRows, cleared, clearNumber, assigned, cut, undoAll, exited, keep, endedWith, doCreate, operated, doOperate, doSetValue, doRemove, treat, treatFrom, touchedFrom, doExit, doQuery, event}
+
+-- the results that the definitions give for the three events
+abbrev pub created : Result
+created = event (waker Quick) freshState (create 1 255 255)
+
+abbrev pub slept : Result
+slept = event (waker Quick) (created .state) (operate 1 (pos 0) (0 ∷ 0 ∷ 255 ∷ 255 ∷ 0 ∷ 0 ∷ []))
+
+abbrev pub given : Result
+given = event (waker Quick) (slept .state) (operate 2 (pos 0) (0 ∷ 0 ∷ 1 ∷ 0 ∷ 0 ∷ 0 ∷ []))
+
+pub after-create : Reached (created .state)
+after-create = came start Quick (create 1 255 255)
+
+pub after-sleep : Reached (slept .state)
+after-sleep = came after-create Quick _
+
+pub slept-looks : slept .looks ≡ 0
+unfolding event doCreate operated doOperate doSetValue doRemove treat treatFrom touchedFrom doExit doQuery identifierOf slotOf namesSet noProcess asleep numberTooHigh permitted freeFrom checkCreate checkOperate checkNumber inRange checkSetValue checkRemove checkProcess clearRows cleared clearNumber assigned cut undoAll exited keep endedWith waker plain quick plainRound quickRound finish without look lastsAfter applied after valuesOf adjustmentsOf judgeFrom goOn step nextValue nextAdjustment codeOf finishes operationsFrom signed16 isZero unmark marked namedBy differing mine maskOf
+slept-looks = refl
+
+pub given-looks : given .looks ≡ 1
+unfolding event doCreate operated doOperate doSetValue doRemove treat treatFrom touchedFrom doExit doQuery identifierOf slotOf namesSet noProcess asleep numberTooHigh permitted freeFrom checkCreate checkOperate checkNumber inRange checkSetValue checkRemove checkProcess clearRows cleared clearNumber assigned cut undoAll exited keep endedWith waker plain quick plainRound quickRound finish without look lastsAfter applied after valuesOf adjustmentsOf judgeFrom goOn step nextValue nextAdjustment codeOf finishes operationsFrom signed16 isZero unmark marked namedBy differing mine maskOf
+given-looks = refl
+
+pub given-wakings : length (given .wakings) ≡ 1
+unfolding event doCreate operated doOperate doSetValue doRemove treat treatFrom touchedFrom doExit doQuery identifierOf slotOf namesSet noProcess asleep numberTooHigh permitted freeFrom checkCreate checkOperate checkNumber inRange checkSetValue checkRemove checkProcess clearRows cleared clearNumber assigned cut undoAll exited keep endedWith waker plain quick plainRound quickRound finish without look lastsAfter applied after valuesOf adjustmentsOf judgeFrom goOn step nextValue nextAdjustment codeOf finishes operationsFrom signed16 isZero unmark marked namedBy differing mine maskOf
+given-wakings = refl

@@ -1,0 +1,2 @@
+-- What the example leans on.
+mod Events

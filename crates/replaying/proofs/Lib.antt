@@ -1,0 +1,6 @@
+-- Laws of the definitions.
+pub mod Turns
+pub mod Starts
+pub mod Arms
+pub mod Going
+pub mod Whole

@@ -1,0 +1,104 @@
+-- What holds of a progress that came so, and how the next event goes on from it.
+use Prim.Native.Nat.{ℕ, zero, suc, _+_, _-_, _<_, _≤_}
+use mathlib.Core.Path.{_≡_, refl, sym, ap, subst, _∙_}
+use mathlib.Core.List.{List, [], _∷_, _++_}
+use native.Mathlib.Omega.{arith}
+use lib.ListN.{length}
+use Rattle.model.specs.declared.Engine.{Engine}
+use Rattle.model.specs.declared.Host.{Host}
+use Rattle.model.specs.State.{State, Sleeper, freshState}
+use Rattle.model.specs.Runs.{Reached, start, came, run}
+use Rattle.model.specs.Layout.{Held, hostOf, stateOf}
+use Rattle.model.proofs.Engines.{reached}
+use Rattle.model.proofs.LayoutLaws.{queued, queue-back}
+use Rattle.runfile.specs.Table.{fileMax, tableEnd, countOf}
+use Rattle.runfile.specs.Body.{eventAt, nextAt, eventsFrom}
+use Rattle.runfile.specs.File.{File, bad, good, fileOf, codeOfFile}
+use Rattle.runfile.proofs.Walk.{Body, Bodies, end, is-good, good-events, good-bodies, bad-code, events-turn, body-turn}
+use Rattle.lines.specs.Text.{lineOf, textOf}
+use Rattle.replaying.specs.declared.Progress.{Progress}
+use Rattle.replaying.specs.Replay.{begun, startOf, nextResult, onward, Came, started, went, rest}
+
+abbrev pub progress : Host → ℕ → ℕ → ℕ → Progress
+progress host position left at = record { host = host; position = position; left = left; at = at }
+
+-- ---- a host that holds a state that was reached
+
+pub back : {s : State} → Reached s → stateOf (hostOf s) ≡ s
+back {s} r =
+    ap (λ (q : List Sleeper). record { sets = s .sets; table = s .table; queue = q })
+    (queue-back (s .queue) (queued (s .queue) (reached r .fits) (reached r .distinct)))
+
+held-of : {s : State} → Reached s → Held (hostOf s)
+held-of r = record { holds = ap hostOf (sym (back r)); reached = subst Reached (sym (back r)) r }
+
+-- ---- what a progress that came so has: a host that holds a state, the bodies that are left, and positions that fit
+
+pub record Ready (file : List ℕ) (p : Progress) : Type 0 where
+  pub held : Held (p .host)
+  pub bodies : Bodies file (p .at) (p .left)
+  pub few : p .position + p .left ≤ fileMax
+
+pub length-events : (file : List ℕ) (at n : ℕ) → length (eventsFrom file at n) ≡ n
+unfolding eventsFrom
+length-events file at zero = refl
+length-events file at (suc n) = ap suc (length-events file (nextAt file at) n)
+
+-- a turn with all of n bodies left
+whole : (n : ℕ) → n ≡ n - 0
+whole n = omega arith
+
+module _ (file : List ℕ) (at n : ℕ) (h : 0 < n) where
+  first-event : eventsFrom file at n ≡ eventAt file at ∷ eventsFrom file (nextAt file at) (n - 1)
+  first-event = ap (eventsFrom file at) (whole n) ∙ events-turn file at n 0 h
+
+  first-body : Bodies file at n → Body file at × Bodies file (nextAt file at) (n - 1)
+  first-body bs = body-turn file at n 0 h (subst (Bodies file at) (whole n) bs)
+
+-- the start of a refused file, and of a good one
+module _ (file : List ℕ) where
+  pub start-bad : (codeOfFile file ≡ 0 → ⊥) → startOf file ≡ progress (hostOf freshState) 0 0 (length file)
+  unfolding begun
+  start-bad h = rw (bad-code file h)
+
+  pub start-good : codeOfFile file ≡ 0 → startOf file ≡ progress (hostOf freshState) 0 (countOf file) (tableEnd (countOf file))
+  unfolding begun
+  start-good h = rw (good-events file h, length-events file (tableEnd (countOf file)) (countOf file))
+
+  start-ready : (code : ℕ) → codeOfFile file ≡ code → Ready file (startOf file)
+  start-ready zero h =
+      rw (start-good h) (record { held = held-of start; bodies = good-bodies file h; few = omega (arith, is-good file h .short, is-good file h .table) })
+  start-ready (suc n) h =
+      rw (start-bad (λ z. no n (sym h ∙ z))) (record { held = held-of start; bodies = end refl; few = omega arith })
+    where
+      no : (m : ℕ) → suc m ≡ 0 → ⊥
+      no m z = omega arith
+
+pub ready : {file : List ℕ} {p : Progress} → Came file p → Ready file p
+unfolding onward
+ready {file} started = start-ready file (codeOfFile file) refl
+ready {file} (went {p} k h engine) =
+    let r : Ready file p = ready k in
+    record {
+      held = held-of (came (r .held .reached) engine (eventAt file (p .at)));
+      bodies = first-body file (p .at) (p .left) h (r .bodies) .1;
+      few = omega (arith, r .few);
+    }
+
+-- ---- the next event
+
+module _ {file : List ℕ} {p : Progress} (k : Came file p) (h : 0 < p .left) where
+  pub next-body : Body file (p .at)
+  next-body = first-body file (p .at) (p .left) h (ready k .bodies) .0
+
+  -- its line, and then what is left behind it
+  pub rest-turn : (engine : Engine)
+      → rest engine file p ≡ lineOf (p .position) (eventAt file (p .at)) (nextResult engine file p) ++ rest engine file (onward engine file p)
+  unfolding rest onward run textOf
+  rest-turn engine =
+      let e = back (came (ready k .held .reached) engine (eventAt file (p .at))) in
+      rw (first-event file (p .at) (p .left) h, e)
+
+pub rest-over : (engine : Engine) (file : List ℕ) (p : Progress) → p .left ≡ 0 → rest engine file p ≡ []
+unfolding rest eventsFrom textOf
+rest-over engine file p h = rw h

@@ -1,0 +1,2 @@
+-- What a replay writes, and how far it has come.
+pub mod Replay
