@@ -59,8 +59,8 @@ pub struct Host {
     pub sets: [Set; SETS],
     pub values: [u16; ALL_SEMAPHORES],
     pub lasts: [u8; ALL_SEMAPHORES],
-    pub adjustments: [i16; ALL_ADJUSTMENTS],
     pub line: Line,
+    pub adjustments: [i16; ALL_ADJUSTMENTS],
     pub arrays: [u8; ALL_BYTES],
 }
 

@@ -6,7 +6,7 @@ use mathlib.Core.List.{List, _++_}
 use native.Mathlib.Omega.{arith}
 use lib.Dec.{eqb}
 use lib.IntN.{ℤ}
-use lib.ListN.{length, take, drop}
+use lib.ListN.{length, take}
 use borrow.Author.Tests.{eqb-true, ne-eqb}
 use Rattle.model.specs.declared.Engine.{Engine}
 use Rattle.model.specs.declared.Host.{Host}
@@ -15,7 +15,7 @@ use Rattle.model.specs.declared.Queried.{Queried}
 use Rattle.model.specs.State.{State}
 use Rattle.model.specs.Checks.{checkNumber}
 use Rattle.model.specs.Waking.{waker}
-use Rattle.model.specs.Events.{Event, Result, checked, event, doCreate, doOperate, doSetValue, doRemove, doSignal, doExit, doQuery, query}
+use Rattle.model.specs.Events.{Event, Result, checked, event, doCreate, doOperate, doSetValue, doRemove, doSignal, doExit, doQuery}
 use Rattle.model.specs.Layout.{Held, hostOf, stateOf, stepOf, queriedOf}
 use Rattle.runfile.specs.Fields.{byteAt, halfAt, signedAt}
 use Rattle.runfile.specs.Body.{sizeAt, sizeOf, operationsAt, eventAt}
@@ -23,7 +23,7 @@ use Rattle.runfile.proofs.Walk.{Body, create-at, operate-at, set-value-at, remo
 use Rattle.lines.specs.Text.{eventText, queryText, eventLine, lineOf}
 use Rattle.lines.specs.Buffer.{lineBytes, PutLine}
 use Rattle.lines.proofs.Writing.{line-text}
-use Rattle.lines.proofs.Model.{of-step, of-queried}
+use Rattle.lines.proofs.Model.{of-step}
 use Rattle.replaying.specs.declared.Progress.{Progress}
 use Rattle.replaying.specs.Replay.{nextResult}
 

@@ -8,7 +8,6 @@ use Rattle.model.specs.declared.Engine.{Engine}
 use Rattle.model.specs.declared.Host.{Host}
 use Rattle.runfile.specs.Body.{nextAt}
 use Rattle.replaying.specs.declared.Progress.{Progress}
-use Rattle.replaying.specs.declared.Wrote.{Wrote}
 use Rattle.replaying.specs.Replay.{onward, ahead, Came, went, rest, Went}
 use Rattle.replaying.proofs.Turns.{progress, rest-turn}
 use Rattle.replaying.proofs.Arms.{Turned}

@@ -4,3 +4,4 @@ pub mod Starts
 pub mod Arms
 pub mod Going
 pub mod Whole
+pub mod Examples

@@ -1,13 +1,12 @@
 -- The first line, and what is left behind it.
-use Prim.Native.Nat.{ℕ, _≤_}
+use Prim.Native.Nat.{ℕ}
 use mathlib.Core.Path.{_≡_, refl, sym, ap, subst, _∙_}
-use mathlib.Core.List.{List, [], _++_, append-nil}
+use mathlib.Core.List.{List, append-nil}
 use native.Mathlib.Omega.{arith}
-use lib.ListN.{length, take}
-use Rattle.model.specs.declared.Engine.{Engine}
+use lib.ListN.{length}
 use Rattle.model.specs.declared.Host.{Host}
 use Rattle.model.specs.State.{freshState}
-use Rattle.model.specs.Runs.{Reached, start}
+use Rattle.model.specs.Runs.{start}
 use Rattle.model.specs.Layout.{hostOf}
 use Rattle.runfile.specs.Table.{tableEnd, countOf}
 use Rattle.runfile.specs.File.{codeOfFile}
@@ -16,8 +15,9 @@ use Rattle.lines.specs.Text.{headLine, badLine}
 use Rattle.lines.specs.Buffer.{PutLine}
 use Rattle.lines.proofs.Writing.{line-text}
 use Rattle.replaying.specs.declared.Progress.{Progress}
-use Rattle.replaying.specs.Replay.{textOfFile, replayed, startOf, Came, started, rest, Begun}
-use Rattle.replaying.proofs.Turns.{progress, back, length-events, start-bad, start-good, rest-over}
+use Rattle.replaying.specs.Replay.{textOfFile, startOf, Came, started, rest, Begun}
+use Rattle.model.proofs.Held.{state-back}
+use Rattle.replaying.proofs.Turns.{progress, length-events, start-bad, start-good, rest-over}
 
 module _ (file : List ℕ) where
   came-so : {p : Progress} → p ≡ startOf file → Came file p
@@ -50,5 +50,5 @@ module _ (file : List ℕ) where
           progress = is;
           came = came-so is;
           fits = omega (arith, w .fits);
-          text = λ engine. rw (good-events file g, length-events file (tableEnd (countOf file)) (countOf file), line-text w (omega arith), h, e, back start);
+          text = λ engine. rw (good-events file g, length-events file (tableEnd (countOf file)) (countOf file), line-text w (omega arith), h, e, state-back start);
         }

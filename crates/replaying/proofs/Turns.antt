@@ -12,8 +12,9 @@ use Rattle.model.specs.Layout.{Held, hostOf, stateOf}
 use Rattle.model.proofs.Engines.{reached}
 use Rattle.model.proofs.LayoutLaws.{queued, queue-back}
 use Rattle.runfile.specs.Table.{fileMax, tableEnd, countOf}
+use Rattle.model.proofs.Held.{state-back, held-of}
 use Rattle.runfile.specs.Body.{eventAt, nextAt, eventsFrom}
-use Rattle.runfile.specs.File.{File, bad, good, fileOf, codeOfFile}
+use Rattle.runfile.specs.File.{codeOfFile}
 use Rattle.runfile.proofs.Walk.{Body, Bodies, end, is-good, good-events, good-bodies, bad-code, events-turn, body-turn}
 use Rattle.lines.specs.Text.{lineOf, textOf}
 use Rattle.replaying.specs.declared.Progress.{Progress}
@@ -21,16 +22,6 @@ use Rattle.replaying.specs.Replay.{begun, startOf, nextResult, onward, C
 
 abbrev pub progress : Host → ℕ → ℕ → ℕ → Progress
 progress host position left at = record { host = host; position = position; left = left; at = at }
-
--- ---- a host that holds a state that was reached
-
-pub back : {s : State} → Reached s → stateOf (hostOf s) ≡ s
-back {s} r =
-    ap (λ (q : List Sleeper). record { sets = s .sets; table = s .table; queue = q })
-    (queue-back (s .queue) (queued (s .queue) (reached r .fits) (reached r .distinct)))
-
-held-of : {s : State} → Reached s → Held (hostOf s)
-held-of r = record { holds = ap hostOf (sym (back r)); reached = subst Reached (sym (back r)) r }
 
 -- ---- what a progress that came so has: a host that holds a state, the bodies that are left, and positions that fit
 
@@ -96,7 +87,7 @@ module _ {file : List ℕ} {p : Progress} (k : Came file p) (h : 0 < p .left) wh
       → rest engine file p ≡ lineOf (p .position) (eventAt file (p .at)) (nextResult engine file p) ++ rest engine file (onward engine file p)
   unfolding rest onward run textOf
   rest-turn engine =
-      let e = back (came (ready k .held .reached) engine (eventAt file (p .at))) in
+      let e = state-back (came (ready k .held .reached) engine (eventAt file (p .at))) in
       rw (first-event file (p .at) (p .left) h, e)
 
 pub rest-over : (engine : Engine) (file : List ℕ) (p : Progress) → p .left ≡ 0 → rest engine file p ≡ []

@@ -1,19 +1,18 @@
 -- The text of a run file under an engine ("The run file"), whole and from any point on.
 use Prim.Native.Nat.{ℕ, zero, suc, _+_, _-_, _<_, _≤_}
 use mathlib.Core.Path.{_≡_}
-use mathlib.Core.List.{List, [], _∷_, _++_}
+use mathlib.Core.List.{List, [], _++_}
 use lib.ListN.{length, take}
 use Rattle.model.specs.declared.Engine.{Engine}
 use Rattle.model.specs.State.{freshState}
 use Rattle.model.specs.Waking.{waker}
-use Rattle.model.specs.Events.{Event, Result, event}
+use Rattle.model.specs.Events.{Result, event}
 use Rattle.model.specs.Runs.{run}
 use Rattle.model.specs.Layout.{hostOf, stateOf}
 use Rattle.runfile.specs.Table.{tableEnd}
 use Rattle.runfile.specs.Body.{eventAt, nextAt, eventsFrom}
 use Rattle.runfile.specs.File.{File, bad, good, fileOf}
 use Rattle.lines.specs.Text.{headLine, badLine, textOf}
-use Rattle.lines.specs.Buffer.{lineBytes}
 use Rattle.replaying.specs.declared.Progress.{Progress}
 use Rattle.replaying.specs.declared.Wrote.{Wrote}
 
@@ -51,6 +50,10 @@ onward engine file p =
 unfoldable pub ahead : Engine → List ℕ → Progress → ℕ → Progress
 ahead engine file p zero = p
 ahead engine file p (suc n) = onward engine file (ahead engine file p n)
+
+-- behind all events of a file
+abbrev pub finished : Engine → List ℕ → Progress
+finished engine file = ahead engine file (startOf file) (startOf file .left)
 
 -- The one premise of a piece: the progress is that of a start, or came back from a piece, of either engine.
 pub data Came (file : List ℕ) : Progress → Type 0 where

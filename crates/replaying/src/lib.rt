@@ -3,6 +3,7 @@
 // `start` checks the file and writes the first line; `piece` runs events and writes their lines while there is room for one
 // more. What a piece wrote, and what the progress has left, is what was left before (specs/Replay.antt); so the pieces put
 // together are the whole text (proofs/Whole.antt).
+ghost use mathlib.Core.Path.{_≡_};
 ghost use Rattle.replaying.specs.Replay.{Begun, Came, Went};
 use lines::bad_line;
 use lines::event_line;
@@ -10,6 +11,10 @@ use lines::head_line;
 use lines::query_line;
 use model::Engine;
 use model::Host;
+use model::PROCESSES;
+use model::Step;
+use model::Waking;
+use model::Wakings;
 use model::fresh;
 use runfile::byte_at;
 use runfile::half_at;
@@ -73,12 +78,35 @@ pub fn start(file: &[u8], out: &mut [u8; PIECE_BYTES]) -> Wrote
     }
 }
 
-// Runs events, each body by its kind, and writes their lines.
+// A step that leaves a host as it is, before the first event of a piece.
+fn still(host: Host) -> Step
+    ensures { λ r. ⌜ r .host ≡ host ⌝ }
+{
+    let none = Waking {
+        process: 0,
+        code: 0,
+    };
+    let list = [none; PROCESSES];
+    Step {
+        host: host,
+        code: 0,
+        value: 0,
+        looks: 0,
+        wakings: Wakings {
+            count: 0,
+            list: list,
+        },
+    }
+}
+
+// Runs events, each body by its kind, and writes their lines. From turn to turn the step is kept, and each arm takes the host
+// out of it by itself: so the host is copied into an event and out of it, and no more.
 pub fn piece(engine: Engine, file: &[u8], p: Progress, out: &mut [u8; PIECE_BYTES]) -> Wrote
     requires { ⌜ Came (now file) p ⌝ }
     ensures { λ r. ⌜ Went engine (now (file .entry)) p (now (out .exit)) r ⌝ }
 {
-    let mut host = p.host;
+    let host = p.host;
+    let mut step = still(host);
     let mut position = p.position;
     let mut left = p.left;
     let mut at = p.at;
@@ -90,36 +118,54 @@ pub fn piece(engine: Engine, file: &[u8], p: Progress, out: &mut [u8; PIECE_BYTE
         let kind = file[at];
         let end = at + size_at(file, at);
         if kind == 7 {
+            let host = step.host;
             let answer = query(host, signed_at(file, at + 1), half_at(file, at + 5));
             next = query_line(out, next, position, answer);
         } else {
             let from = at + 7;
-            let step = match kind {
-                1 => create(
-                    host,
-                    byte_at(file, at + 1),
-                    byte_at(file, at + 2),
-                    byte_at(file, at + 3),
-                ),
-                2 => operate(
-                    engine,
-                    host,
-                    byte_at(file, at + 1),
-                    signed_at(file, at + 2),
-                    &file[from..end],
-                ),
-                3 => set_value(
-                    engine,
-                    host,
-                    signed_at(file, at + 1),
-                    half_at(file, at + 5),
-                    signed_at(file, at + 7),
-                ),
-                4 => remove(host, signed_at(file, at + 1)),
-                5 => signal(host, byte_at(file, at + 1)),
-                _ => exit(engine, host, byte_at(file, at + 1)),
-            };
-            host = step.host;
+            match kind {
+                1 => {
+                    let host = step.host;
+                    step = create(
+                        host,
+                        byte_at(file, at + 1),
+                        byte_at(file, at + 2),
+                        byte_at(file, at + 3),
+                    );
+                }
+                2 => {
+                    let host = step.host;
+                    step = operate(
+                        engine,
+                        host,
+                        byte_at(file, at + 1),
+                        signed_at(file, at + 2),
+                        &file[from..end],
+                    );
+                }
+                3 => {
+                    let host = step.host;
+                    step = set_value(
+                        engine,
+                        host,
+                        signed_at(file, at + 1),
+                        half_at(file, at + 5),
+                        signed_at(file, at + 7),
+                    );
+                }
+                4 => {
+                    let host = step.host;
+                    step = remove(host, signed_at(file, at + 1));
+                }
+                5 => {
+                    let host = step.host;
+                    step = signal(host, byte_at(file, at + 1));
+                }
+                _ => {
+                    let host = step.host;
+                    step = exit(engine, host, byte_at(file, at + 1));
+                }
+            }
             let wakings = step.wakings;
             next = event_line(
                 out,
@@ -135,6 +181,7 @@ pub fn piece(engine: Engine, file: &[u8], p: Progress, out: &mut [u8; PIECE_BYTE
         position += 1;
         left -= 1;
     }
+    let host = step.host;
     Wrote {
         progress: Progress {
             host: host,

@@ -1,18 +1,16 @@
 -- `replaying::piece` meets its contract. The loop's invariant: what is written, and what is left, is what was left before.
-use Prim.Native.Nat.{_+_, _-_, _<_, _≤_, _^_}
-use mathlib.Core.Path.{_≡_, refl, sym, ap, _∙_}
+use Prim.Native.Nat.{ℕ, _+_, _<_, _≤_, _^_}
+use mathlib.Core.Path.{refl, ap, _∙_}
 use mathlib.Core.Logic.{⊎-elim}
-use native.Mathlib.Omega.{arith}
 use mathlib.Core.List.{List}
-use Prim.Native.Nat.{ℕ}
-use lib.ListN.{length, getD}
+use native.Mathlib.Omega.{arith}
+use lib.ListN.{length}
 use mir.Syntax.{w32}
 use mir.Facts.{toZ-ofZ}
 use borrow.Author.Needs.{needs}
-use Rattle.runfile.specs.Fields.{byteAt}
-use Rattle.runfile.specs.Body.{nextAt}
-use Rattle.runfile.proofs.Walk.{Body, operate-size, operations-inside, operations-part}
 use Rattle.model.specs.Layout.{Held}
+use Rattle.runfile.specs.Body.{nextAt}
+use Rattle.runfile.proofs.Walk.{Body, operate-size, operations-part}
 use Rattle.replaying.proofs.Turns.{progress, ready, next-body}
 use Rattle.replaying.proofs.Arms.{Stepped, created, operated, valued, removed, signalled, exited, exit-kind, Turned, event-turned, query-turned}
 use Rattle.replaying.proofs.Going.{Going, begins, goes-on, ends}
@@ -20,273 +18,237 @@ use Rattle.replaying.proofs.piece.Statement.{statement}
 use Rattle.replaying.proofs.piece.Tie as tie
 
 abbrev Inv-loop : tie.InvT-loop
-Inv-loop engine file out₀ host₀ position₀ left₀ at₀ next₀ out host position left at next =
-    Going engine file (progress host₀ position₀ left₀ at₀) (progress host position left at) out next
+Inv-loop engine file out₀ step₀ position₀ left₀ at₀ next₀ out step position left at next =
+    Going engine file (progress (step₀ .host) position₀ left₀ at₀) (progress (step .host) position left at) out next
 
 abbrev μ-loop : tie.MeasureT-loop
-μ-loop engine file out₀ host₀ position₀ left₀ at₀ next₀ out host position left at next = left
+μ-loop engine file out₀ step₀ position₀ left₀ at₀ next₀ out step position left at next = left
 
--- ---- in a turn
+-- ---- in a turn: the file, the body at the next position, and room for what is read and written
 
 abbrev In : Type 0
 In = tie.In-loop Inv-loop μ-loop
 
 abbrev file-of : In → List ℕ
-file-of c = c .before .before .before .before .args .file .now
+file-of c = c .before .before .before .before .before .args .file .now
 
 body : (c : In) → Body (file-of c) (c .before .loop .at)
 body c = next-body (c .before .loop .inv .came) (c .loop-test .taken)
 
-held : (c : In) → Held (c .before .loop .host)
+held : (c : In) → Held (c .before .loop .step .host)
 held c = ready (c .before .loop .inv .came) .held
 
 inside : (c : In) → c .before .loop .at < length (file-of c)
 inside c = omega (arith, body c .known, body c .inside)
 
 far : (c : In) → c .before .loop .at + 11 < 2 ^ 64
-far c = omega (arith, inside c, c .before .before .before .before .good)
+far c = omega (arith, inside c, c .before .before .before .before .before .good)
 
 fit : (c : In) → nextAt (file-of c) (c .before .loop .at) < 2 ^ 64
-fit c = omega (arith, body c .inside, c .before .before .before .before .good)
+fit c = omega (arith, body c .inside, c .before .before .before .before .before .good)
 
 room : (c : tie.Else1 Inv-loop μ-loop) → c .before .before .loop .next + 200 ≤ 65536
 room c = omega (arith, c .if1 .left)
 
 -- the step of the arm that was taken
 step-is : (c : tie.At-match-came Inv-loop μ-loop)
-    → Stepped (c .before .before .before .before .before .before .before .before .before .args .engine) (file-of (c .before .before .before .before .before)) (c .before .before .before .before .before .before .loop .host) (c .before .before .before .before .before .before .loop .at) (c .match .step)
+    → Stepped (c .before .before .before .before .before .before .before .before .before .before .args .engine) (file-of (c .before .before .before .before .before)) (c .before .before .before .before .before .before .loop .step .host) (c .before .before .before .before .before .before .loop .at) (c .match .step)
 step-is c =
     let i = c .before .before .before .before .before in
-    let engine = i .before .before .before .before .args .engine in
+    let engine = i .before .before .before .before .before .args .engine in
     let file = file-of i in
-    let host = i .before .loop .host in
+    let host = i .before .loop .step .host in
     let at = i .before .loop .at in
     let step = c .match .step in
-    ⊎-elim (λ v. created engine file host at step (v .0 .keys1) (v .1 .ensures) (v .2 .ensures) (v .3 .ensures) (v .5 ∙ v .4 .ensures))
-    (⊎-elim (λ v. operated engine file host at step (v .0 .keys2) (v .1 .ensures) (toZ-ofZ {w = w32} (record { sfits = v .2 .ok }) ∙ v .2 .ensures) (operations-part file at _ _ refl (omega (arith, c .before .before .size-at .ensures, operate-size file at (v .0 .keys2)))) (v .5 ∙ v .4 .ensures))
-    (⊎-elim (λ v. valued engine file host at step (v .0 .keys3) (toZ-ofZ {w = w32} (record { sfits = v .1 .ok }) ∙ v .1 .ensures) (v .2 .ensures) (toZ-ofZ {w = w32} (record { sfits = v .3 .ok }) ∙ v .3 .ensures) (v .5 ∙ v .4 .ensures))
-    (⊎-elim (λ v. removed engine file host at step (v .0 .keys4) (toZ-ofZ {w = w32} (record { sfits = v .1 .ok }) ∙ v .1 .ensures) (v .3 ∙ v .2 .ensures))
-    (⊎-elim (λ v. signalled engine file host at step (v .0 .keys5) (v .1 .ensures) (v .3 ∙ v .2 .ensures))
-    (λ v. exited engine file host at step (exit-kind file at (body i) (c .before .if2 .left) (v .0 .rest .0 .0 .0 .0 .1) (v .0 .rest .0 .0 .0 .1) (v .0 .rest .0 .0 .1) (v .0 .rest .0 .1) (v .0 .rest .1)) (v .1 .ensures) (v .3 ∙ v .2 .ensures))))))
+    ⊎-elim (λ v. created engine file host at step (v .0 .keys1) (v .2 .ensures) (v .3 .ensures) (v .4 .ensures) (v .6 ∙ v .5 .ensures))
+    (⊎-elim
+    (λ v. operated engine file host at step (v .0 .keys2) (v .2 .ensures) (toZ-ofZ {w = w32} (record { sfits = v .3 .ok }) ∙ v .3 .ensures)
+    (operations-part file at _ _ refl (omega (arith, c .before .before .size-at .ensures, operate-size file at (v .0 .keys2)))) (v .6 ∙ v .5 .ensures))
+    (⊎-elim (λ v. valued engine file host at step (v .0 .keys3) (toZ-ofZ {w = w32} (record { sfits = v .2 .ok }) ∙ v .2 .ensures) (v .3 .ensures) (toZ-ofZ {w = w32} (record { sfits = v .4 .ok }) ∙ v .4 .ensures) (v .6 ∙ v .5 .ensures))
+    (⊎-elim (λ v. removed engine file host at step (v .0 .keys4) (toZ-ofZ {w = w32} (record { sfits = v .2 .ok }) ∙ v .2 .ensures) (v .4 ∙ v .3 .ensures))
+    (⊎-elim (λ v. signalled engine file host at step (v .0 .keys5) (v .2 .ensures) (v .4 ∙ v .3 .ensures))
+    (λ v.
+    let r = v .0 .rest in
+    let kind = exit-kind file at (body i) (c .before .if2 .left) (r .0 .0 .0 .0 .1) (r .0 .0 .0 .1) (r .0 .0 .1) (r .0 .1) (r .1) in
+    exited engine file host at step kind (v .2 .ensures) (v .4 ∙ v .3 .ensures))))))
     (c .match .came)
 
 -- the line of the event, and the host after it
 turned : (c : tie.Joined2 Inv-loop μ-loop)
-    → Turned (c .before .before .before .before .before .before .before .before .args .engine) (file-of (c .before .before .before .before))
-    (progress (c .before .before .before .before .before .loop .host) (c .before .before .before .before .before .loop .position) (c .before .before .before .before .before .loop .left) (c .before .before .before .before .before .loop .at))
-    (c .before .before .before .before .before .loop .out) (c .before .before .before .before .before .loop .next) (c .if2 .host) (c .if2 .out) (c .if2 .next)
+    → Turned (c .before .before .before .before .before .before .before .before .before .args .engine) (file-of (c .before .before .before .before)) (progress (c .before .before .before .before .before .loop .step .host) (c .before .before .before .before .before .loop .position) (c .before .before .before .before .before .loop .left) (c .before .before .before .before .before .loop .at))
+    (c .before .before .before .before .before .loop .out) (c .before .before .before .before .before .loop .next) (c .if2 .step .host) (c .if2 .out) (c .if2 .next)
 turned c =
     let i = c .before .before .before .before in
-    let engine = i .before .before .before .before .args .engine in
+    let engine = i .before .before .before .before .before .args .engine in
     let l = i .before .loop in
-    let p = progress (l .host) (l .position) (l .left) (l .at) in
+    let p = progress (l .step .host) (l .position) (l .left) (l .at) in
     ⊎-elim
-    (λ v. rw (v .6, v .7, v .8) (query-turned engine (file-of i) p (omega (arith, v .4 .given .0 .1, room (c .before .before .before))) (v .5 .kept .0) (held i) (v .0 .taken) (toZ-ofZ {w = w32} (record { sfits = v .1 .ok }) ∙ v .1 .ensures) (v .2 .ensures) (v .3 .ensures) (v .5 .ensures)))
+    (λ v.
+    let r : l .next + 200 ≤ length (l .out) = omega (arith, v .5 .given .0 .1, room (c .before .before .before)) in
+    rw (v .7, v .8, v .9)
+    (query-turned engine (file-of i) p r (v .6 .kept .0) (held i) (v .0 .taken) (toZ-ofZ {w = w32} (record { sfits = v .2 .ok }) ∙ v .2 .ensures) (v .3 .ensures) (v .4 .ensures) (v .6 .ensures)))
     (λ v.
     let k = step-is (record { before = record { before = c .before; if2 = v .0 }; match = v .1 }) in
-    let code = toZ-ofZ {w = w32} {z = v .1 .step .code} (record { sfits = v .5 .given .1 .0 .1 }) in
-    rw (v .7, v .8, v .9) (event-turned engine (file-of i) p (omega (arith, v .4 .given .0 .1, room (c .before .before .before))) (v .6 .kept .0) k (rw code at (v .6 .ensures))))
+    let code = toZ-ofZ {w = w32} {z = v .1 .step .code} (record { sfits = v .4 .given .1 .0 .1 }) in
+    let r : l .next + 200 ≤ length (l .out) = omega (arith, v .3 .given .0 .1, room (c .before .before .before)) in
+    rw (v .6, v .7, v .8) (event-turned engine (file-of i) p r (v .5 .kept .0) k (rw code at (v .5 .ensures))))
     (c .if2 .came)
 
--- src/lib.rt:86:5
+-- ---- the needs
+
+still-requires : tie.Need-still-requires Inv-loop μ-loop
+still-requires c κs = search needs
+
 loop-holds : tie.Need-loop-holds Inv-loop μ-loop
 loop-holds c =
-    let s = c .before .before in
-    begins (s .args .engine) (s .args .file .now) (s .args .p) (s .args .out .now) (s .pre)
+    let s = c .before .before .before in
+    rw (c .still .ensures) (begins (s .args .engine) (s .args .file .now) (s .args .p) (s .args .out .now) (s .pre))
 
--- src/lib.rt:90:20
 shared-slice-read-kind : tie.Need-shared-slice-read-kind Inv-loop μ-loop
 shared-slice-read-kind c = inside (c .before .before)
 
--- src/lib.rt:91:24
 size-at-requires : tie.Need-size-at-requires Inv-loop μ-loop
 size-at-requires c κs = search needs
 
--- src/lib.rt:91:19
 add-end : tie.Need-add-end Inv-loop μ-loop
 add-end c = omega (arith, c .size-at .ensures, fit (c .before .before .before))
 
--- src/lib.rt:93:54
 add-signed-at : tie.Need-add-signed-at Inv-loop μ-loop
-add-signed-at c = omega (arith, far (c .before .before .before .before))
+add-signed-at c = omega (arith, far (c .before .before .before .before .before))
 
--- src/lib.rt:93:38
 signed-at-requires : tie.Need-signed-at-requires Inv-loop μ-loop
 signed-at-requires c κs = search needs
 
--- src/lib.rt:93:77
 add-half-at : tie.Need-add-half-at Inv-loop μ-loop
-add-half-at c = omega (arith, far (c .before .before .before .before .before))
+add-half-at c = omega (arith, far (c .before .before .before .before .before .before))
 
--- src/lib.rt:93:63
 half-at-requires : tie.Need-half-at-requires Inv-loop μ-loop
 half-at-requires c κs = search needs
 
--- src/lib.rt:93:17
 query-requires : tie.Need-query-requires Inv-loop μ-loop
-query-requires c κs = held (c .before .before .before .before .before .before)
+query-requires c κs = held (c .before .before .before .before .before .before .before)
 
--- src/lib.rt:94:13
 query-line-requires : tie.Need-query-line-requires Inv-loop μ-loop
 query-line-requires c κs = search needs
 
--- src/lib.rt:96:24
 add-from : tie.Need-add-from Inv-loop μ-loop
 add-from c = omega (arith, far (c .before .before .before .before))
 
--- src/lib.rt:98:49
 add-byte-at : tie.Need-add-byte-at Inv-loop μ-loop
-add-byte-at c = omega (arith, far (c .before .before .before .before .before))
+add-byte-at c = omega (arith, far (c .before .before .before .before .before .before))
 
--- src/lib.rt:98:35
 byte-at-requires : tie.Need-byte-at-requires Inv-loop μ-loop
 byte-at-requires c κs = search needs
 
--- src/lib.rt:98:72
 add-byte-at-2 : tie.Need-add-byte-at-2 Inv-loop μ-loop
-add-byte-at-2 c = omega (arith, far (c .before .before .before .before .before .before))
+add-byte-at-2 c = omega (arith, far (c .before .before .before .before .before .before .before))
 
--- src/lib.rt:98:58
 byte-at-requires-2 : tie.Need-byte-at-requires-2 Inv-loop μ-loop
 byte-at-requires-2 c κs = search needs
 
--- src/lib.rt:98:95
 add-byte-at-3 : tie.Need-add-byte-at-3 Inv-loop μ-loop
-add-byte-at-3 c = omega (arith, far (c .before .before .before .before .before .before .before))
+add-byte-at-3 c = omega (arith, far (c .before .before .before .before .before .before .before .before))
 
--- src/lib.rt:98:81
 byte-at-requires-3 : tie.Need-byte-at-requires-3 Inv-loop μ-loop
 byte-at-requires-3 c κs = search needs
 
--- src/lib.rt:98:22
 create-requires : tie.Need-create-requires Inv-loop μ-loop
-create-requires c κs = held (c .before .before .before .before .before .before .before .before)
+create-requires c κs = held (c .before .before .before .before .before .before .before .before .before)
 
--- src/lib.rt:99:58
 add-byte-at-4 : tie.Need-add-byte-at-4 Inv-loop μ-loop
-add-byte-at-4 c = omega (arith, far (c .before .before .before .before .before))
+add-byte-at-4 c = omega (arith, far (c .before .before .before .before .before .before))
 
--- src/lib.rt:99:44
 byte-at-requires-4 : tie.Need-byte-at-requires-4 Inv-loop μ-loop
 byte-at-requires-4 c κs = search needs
 
--- src/lib.rt:99:83
 add-signed-at-2 : tie.Need-add-signed-at-2 Inv-loop μ-loop
-add-signed-at-2 c = omega (arith, far (c .before .before .before .before .before .before))
+add-signed-at-2 c = omega (arith, far (c .before .before .before .before .before .before .before))
 
--- src/lib.rt:99:67
 signed-at-requires-2 : tie.Need-signed-at-requires-2 Inv-loop μ-loop
 signed-at-requires-2 c κs = search needs
 
--- src/lib.rt:99:92
 sub-operate : tie.Need-sub-operate Inv-loop μ-loop
-sub-operate c = omega (arith, c .before .before .before .before .size-at .ensures, operate-size (file-of (c .before .before .before .before .before .before .before)) (c .before .before .before .before .before .before .before .before .loop .at) (c .before .before .match .keys2))
+sub-operate c = omega (arith, c .before .before .before .before .before .size-at .ensures, operate-size (file-of (c .before .before .before .before .before .before .before .before)) (c .before .before .before .before .before .before .before .before .before .loop .at) (c .before .before .before .match .keys2))
 
--- src/lib.rt:99:92
 part-operate-start : tie.Need-part-operate-start Inv-loop μ-loop
-part-operate-start c = omega (arith, c .before .before .before .before .size-at .ensures, operate-size (file-of (c .before .before .before .before .before .before .before)) (c .before .before .before .before .before .before .before .before .loop .at) (c .before .before .match .keys2))
+part-operate-start c = omega (arith, c .before .before .before .before .before .size-at .ensures, operate-size (file-of (c .before .before .before .before .before .before .before .before)) (c .before .before .before .before .before .before .before .before .before .loop .at) (c .before .before .before .match .keys2))
 
--- src/lib.rt:99:92
 part-operate-end : tie.Need-part-operate-end Inv-loop μ-loop
-part-operate-end c = omega (arith, c .before .before .before .before .size-at .ensures, body (c .before .before .before .before .before .before .before) .inside)
+part-operate-end c = omega (arith, c .before .before .before .before .before .size-at .ensures, body (c .before .before .before .before .before .before .before .before) .inside)
 
--- src/lib.rt:99:22
 operate-requires : tie.Need-operate-requires Inv-loop μ-loop
-operate-requires c κs = held (c .before .before .before .before .before .before .before .before)
+operate-requires c κs = held (c .before .before .before .before .before .before .before .before .before)
 
--- src/lib.rt:100:62
 add-signed-at-3 : tie.Need-add-signed-at-3 Inv-loop μ-loop
-add-signed-at-3 c = omega (arith, far (c .before .before .before .before .before))
+add-signed-at-3 c = omega (arith, far (c .before .before .before .before .before .before))
 
--- src/lib.rt:100:46
 signed-at-requires-3 : tie.Need-signed-at-requires-3 Inv-loop μ-loop
 signed-at-requires-3 c κs = search needs
 
--- src/lib.rt:100:85
 add-half-at-2 : tie.Need-add-half-at-2 Inv-loop μ-loop
-add-half-at-2 c = omega (arith, far (c .before .before .before .before .before .before))
+add-half-at-2 c = omega (arith, far (c .before .before .before .before .before .before .before))
 
--- src/lib.rt:100:71
 half-at-requires-2 : tie.Need-half-at-requires-2 Inv-loop μ-loop
 half-at-requires-2 c κs = search needs
 
--- src/lib.rt:100:110
 add-signed-at-4 : tie.Need-add-signed-at-4 Inv-loop μ-loop
-add-signed-at-4 c = omega (arith, far (c .before .before .before .before .before .before .before))
+add-signed-at-4 c = omega (arith, far (c .before .before .before .before .before .before .before .before))
 
--- src/lib.rt:100:94
 signed-at-requires-4 : tie.Need-signed-at-requires-4 Inv-loop μ-loop
 signed-at-requires-4 c κs = search needs
 
--- src/lib.rt:100:22
 set-value-requires : tie.Need-set-value-requires Inv-loop μ-loop
-set-value-requires c κs = held (c .before .before .before .before .before .before .before .before)
+set-value-requires c κs = held (c .before .before .before .before .before .before .before .before .before)
 
--- src/lib.rt:101:51
 add-signed-at-5 : tie.Need-add-signed-at-5 Inv-loop μ-loop
-add-signed-at-5 c = omega (arith, far (c .before .before .before .before .before))
+add-signed-at-5 c = omega (arith, far (c .before .before .before .before .before .before))
 
--- src/lib.rt:101:35
 signed-at-requires-5 : tie.Need-signed-at-requires-5 Inv-loop μ-loop
 signed-at-requires-5 c κs = search needs
 
--- src/lib.rt:101:22
 remove-requires : tie.Need-remove-requires Inv-loop μ-loop
-remove-requires c κs = held (c .before .before .before .before .before .before)
+remove-requires c κs = held (c .before .before .before .before .before .before .before)
 
--- src/lib.rt:102:49
 add-byte-at-5 : tie.Need-add-byte-at-5 Inv-loop μ-loop
-add-byte-at-5 c = omega (arith, far (c .before .before .before .before .before))
+add-byte-at-5 c = omega (arith, far (c .before .before .before .before .before .before))
 
--- src/lib.rt:102:35
 byte-at-requires-5 : tie.Need-byte-at-requires-5 Inv-loop μ-loop
 byte-at-requires-5 c κs = search needs
 
--- src/lib.rt:102:22
 signal-requires : tie.Need-signal-requires Inv-loop μ-loop
-signal-requires c κs = held (c .before .before .before .before .before .before)
+signal-requires c κs = held (c .before .before .before .before .before .before .before)
 
--- src/lib.rt:103:55
 add-byte-at-6 : tie.Need-add-byte-at-6 Inv-loop μ-loop
-add-byte-at-6 c = omega (arith, far (c .before .before .before .before .before))
+add-byte-at-6 c = omega (arith, far (c .before .before .before .before .before .before))
 
--- src/lib.rt:103:41
 byte-at-requires-6 : tie.Need-byte-at-requires-6 Inv-loop μ-loop
 byte-at-requires-6 c κs = search needs
 
--- src/lib.rt:103:22
 exit-requires : tie.Need-exit-requires Inv-loop μ-loop
-exit-requires c κs = held (c .before .before .before .before .before .before)
+exit-requires c κs = held (c .before .before .before .before .before .before .before)
 
--- src/lib.rt:107:13
 event-line-requires : tie.Need-event-line-requires Inv-loop μ-loop
 event-line-requires c κs = search needs
 
--- src/lib.rt:110:9
 add-position : tie.Need-add-position Inv-loop μ-loop
 add-position c = omega (arith, ready (c .before .before .before .before .before .loop .inv .came) .few)
 
--- src/lib.rt:111:9
 sub-left : tie.Need-sub-left Inv-loop μ-loop
 sub-left c = omega (arith, c .before .before .before .before .loop-test .taken)
 
--- src/lib.rt:86:5
 loop-less : tie.Need-loop-less Inv-loop μ-loop
 loop-less c = omega (arith, c .before .before .before .before .loop-test .taken)
 
--- src/lib.rt:86:5
 loop-again : tie.Need-loop-again Inv-loop μ-loop
 loop-again c =
     let i = c .before .before .before .before in
     goes-on (i .before .loop .inv) (i .loop-test .taken) (ap (λ n. i .before .loop .at + n) (c .before .size-at .ensures)) (turned c)
 
--- src/lib.rt:77:1
 returns : tie.Need-returns Inv-loop μ-loop
-returns c = ends (c .before .loop .inv) (λ h. omega (arith, c .loop-test .left))
-
--- src/lib.rt:77:1
-returns-2 : tie.Need-returns-2 Inv-loop μ-loop
-returns-2 c = ends (c .before .before .loop .inv) (λ h. c .before .before .loop .inv .moved (omega (arith, c .if1 .taken)))
+returns c =
+    let l = c .before .before .loop in
+    let g = rw (c .before .before .before .still .ensures) at (l .inv) in
+    ends g (λ h. ⊎-elim (λ w. omega (arith, w .left)) (λ w. g .moved (omega (arith, w .1 .taken))) (c .before .loop-test .came))
 
 pub piece-spec : {M : Type 1} → statement M
 piece-spec =
@@ -294,6 +256,7 @@ piece-spec =
     (tie.spec
     Inv-loop
     μ-loop
+    still-requires
     loop-holds
     shared-slice-read-kind
     size-at-requires
@@ -341,5 +304,4 @@ piece-spec =
     sub-left
     loop-less
     loop-again
-    returns
-    returns-2)
+    returns)

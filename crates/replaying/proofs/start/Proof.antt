@@ -18,40 +18,31 @@ short c =
     let g = is-good _ (good (c .before .before .before)) in
     omega (arith, c .before .before .count .ensures, g .short, g .table)
 
--- src/lib.rt:49:9
 code-requires : tie.Need-code-requires
 code-requires c κs = search needs
 
--- src/lib.rt:50:9
 fresh-requires : tie.Need-fresh-requires
 fresh-requires c κs = search needs
 
--- src/lib.rt:52:13
 bad-line-requires : tie.Need-bad-line-requires
 bad-line-requires c κs = search needs
 
--- src/lib.rt:53:9
 returns : tie.Need-returns
 returns c =
     bad-begun (now (c .before .before .before .before .before .before .args .file)) (c .before .before .before .before .code .ensures) (c .before .before .if1 .taken) (c .before .before .before .fresh .ensures) (c .before .bad-line-arg .given .0 .1) (c .bad-line .kept .0) (c .bad-line .ensures)
 
--- src/lib.rt:63:9
 count-requires : tie.Need-count-requires
 count-requires c κs = search needs
 
--- src/lib.rt:64:9
 head-line-requires : tie.Need-head-line-requires
 head-line-requires c κs = search needs
 
--- src/lib.rt:70:39
 mul-t15 : tie.Need-mul-t15
 mul-t15 c = omega (arith, short c)
 
--- src/lib.rt:70:17
 add-t16 : tie.Need-add-t16
 add-t16 c = omega (arith, short c)
 
--- src/lib.rt:46:1
 returns-2 : tie.Need-returns-2
 returns-2 c =
     good-begun (now (c .before .before .before .before .before .before .before .args .file)) (good (c .before .before .before)) (c .before .before .before .before .fresh .ensures) (c .before .before .count .ensures) (c .before .head-line-arg .given .0 .1) (c .head-line .kept .0) (c .head-line .ensures)

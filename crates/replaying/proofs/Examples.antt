@@ -1,0 +1,48 @@
+-- "Whole example, 44 bytes", from its bytes to its text, computed in both engines; and a refused file.
+use Prim.Native.Nat.{ℕ}
+use mathlib.Core.Path.{_≡_, refl}
+use mathlib.Core.List.{List, [], _∷_}
+use Rattle.model.specs.declared.Engine.{Engine}
+use Rattle.model.specs.declared.Engine.the-variants.{Plain, Quick}
+use Rattle.model.specs.Operation.{signed16, operationsFrom, isZero}
+use Rattle.model.specs.Judge.{nextValue, nextAdjustment, step, goOn, judgeFrom, codeOf, finishes}
+use Rattle.model.specs.Look.{valuesOf, adjustmentsOf, look, lastsAfter, applied, after}
+use Rattle.model.specs.Marks.{unmark, marked, namedBy, differing, mine, maskOf}
+use Rattle.model.specs.Waking.{without, finish, plainRound, quickRound, plain, quick, waker}
+use Rattle.model.specs.Checks.{identifierOf, slotOf, namesSet, noProcess, asleep, numberTooHigh, permitted, freeFrom, checkCreate, checkOperate}
+use Rattle.model.specs.Events.{clearRows, cleared, doCreate, operated, doOperate, event}
+use Rattle.model.specs.Runs.{run}
+use Rattle.runfile.specs.Fields.{wordAt, signed32}
+use Rattle.runfile.specs.Table.{countOf, entriesFrom, chains}
+use Rattle.runfile.specs.Body.{sizeOf, sizeAt, operationsAt, eventAt, bodyCode}
+use Rattle.runfile.specs.File.{fileOf, eventsOf, bad}
+use Rattle.lines.specs.Text.{digitsIn, digitsOf, signedOf, wordLine, badLine, wakingText, wakingsText, eventText, lineOf, textOf}
+use Rattle.replaying.specs.Replay.{textOfFile, replayed}
+
+abbrev example : List ℕ
+example =
+    3 ∷ 0
+    ∷ 14 ∷ 0 ∷ 4 ∷ 0
+    ∷ 18 ∷ 0 ∷ 13 ∷ 0
+    ∷ 31 ∷ 0 ∷ 13 ∷ 0
+    ∷ 1 ∷ 1 ∷ 255 ∷ 255
+    ∷ 2 ∷ 1 ∷ 0 ∷ 0 ∷ 0 ∷ 0 ∷ 1 ∷ 0 ∷ 0 ∷ 255 ∷ 255 ∷ 0 ∷ 0
+    ∷ 2 ∷ 2 ∷ 0 ∷ 0 ∷ 0 ∷ 0 ∷ 1 ∷ 0 ∷ 0 ∷ 1 ∷ 0 ∷ 0 ∷ 0 ∷ []
+
+-- `events 3`, `0 0 0 0`, `1 -1 0 0`, `2 0 0 1 1=0`
+abbrev text : List ℕ
+text =
+    101 ∷ 118 ∷ 101 ∷ 110 ∷ 116 ∷ 115 ∷ 32 ∷ 51 ∷ 10
+    ∷ 48 ∷ 32 ∷ 48 ∷ 32 ∷ 48 ∷ 32 ∷ 48 ∷ 10
+    ∷ 49 ∷ 32 ∷ 45 ∷ 49 ∷ 32 ∷ 48 ∷ 32 ∷ 48 ∷ 10
+    ∷ 50 ∷ 32 ∷ 48 ∷ 32 ∷ 48 ∷ 32 ∷ 49 ∷ 32 ∷ 49 ∷ 61 ∷ 48 ∷ 10 ∷ []
+
+whole-example : (engine : Engine) → replayed engine example ≡ text
+unfolding textOfFile textOf lineOf eventText wakingsText wakingText wordLine signedOf digitsOf digitsIn fileOf eventsOf bodyCode eventAt operationsAt sizeAt sizeOf chains entriesFrom countOf signed32 wordAt run event doCreate operated doOperate identifierOf slotOf namesSet noProcess asleep numberTooHigh permitted freeFrom checkCreate checkOperate clearRows cleared waker plain quick plainRound quickRound finish without look lastsAfter applied after valuesOf adjustmentsOf judgeFrom goOn step nextValue nextAdjustment codeOf finishes operationsFrom signed16 isZero unmark marked namedBy differing mine maskOf
+whole-example Plain = refl
+whole-example Quick = refl
+
+-- "A refused file writes one line", whatever its events would have done
+pub refused-alone : (engine : Engine) (file : List ℕ) (code : ℕ) → fileOf file ≡ bad code → replayed engine file ≡ badLine code
+unfolding textOfFile
+refused-alone engine file code e = rw e
