@@ -1,7 +1,8 @@
--- Judging: it keeps sizes and ranges, and depends only on the values and adjustments of the semaphores that the array names.
+-- Judging: unless done it gives back what it began with; it keeps sizes and ranges, and depends only on the values and adjustments of the semaphores that the array names.
 use Prim.Native.Nat.{ℕ, zero, suc, _+_, _-_, _≤_}
 use native.Mathlib.Omega.{arith}
 use mathlib.Core.Path.{_≡_, refl, sym, _∙_}
+use mathlib.Core.Logic.{_⊎_, inl, inr}
 use mathlib.Core.Bool.{Bool, true, false, cond}
 use mathlib.Core.List.{List, [], _∷_}
 use lib.Dec.{ltb, eqb}
@@ -29,6 +30,24 @@ use Rattle.model.proofs.Invariant.{Ranged}
 pub either : {A : Type 0} (P : A → Type 0) (b : Bool) (x y : A) → P x → P y → P (cond b x y)
 either P true x y h k = h
 either P false x y h k = k
+
+-- ---- nothing is applied of an array that is not done
+
+-- a judging that is done, or gives back what it began with
+abbrev TakenBack : Copies → Judged → Type 0
+TakenBack start j = (j .outcome ≡ Done) ⊎ (j .copies ≡ start)
+
+goOn-taken-back : (start : Copies) (i : ℕ) (x : Outcome) (more : Judged) → TakenBack start more → TakenBack start (goOn start i x more)
+unfolding goOn
+goOn-taken-back start i Done more h = h
+goOn-taken-back start i Sleep more h = inr refl
+goOn-taken-back start i Again more h = inr refl
+goOn-taken-back start i Range more h = inr refl
+
+pub taken-back : (start : Copies) (os : List Operation) (c : Copies) (i : ℕ) → TakenBack start (judgeFrom start os c i)
+unfolding judgeFrom
+taken-back start [] c i = inl refl
+taken-back start (o ∷ os) c i = goOn-taken-back start i (step c o i .outcome) _ (taken-back start os (step c o i .copies) (i + 1))
 
 -- ---- sizes and ranges
 
