@@ -16,12 +16,12 @@ use Rattle.lines.proofs.Signs.{signed-short}
 
 -- a waking within its types
 pub record Typed (w : Waking) : Type 0 where
-  pub process : Fits w8 (w .process)
+  pub process : Fits w32 (w .process)
   pub code : SFits w32 (w .code)
 
 waking-short : {w : Waking} → Typed w → length (wakingText (w .process) (w .code)) ≤ wakingBytes
 unfolding wakingText
-waking-short {w} t = simp length-append (omega (arith, digits-fit w8 2 tt (t .process), signed-short (w .code) (t .code)))
+waking-short {w} t = simp length-append (omega (arith, digits-fit w32 9 tt (t .process), signed-short (w .code) (t .code)))
 
 wakings-short : (n : ℕ) {ws : List Waking} → length ws ≤ n → All Typed ws → length (wakingsText ws) ≤ wakingBytes * n
 unfolding wakingsText

@@ -7,10 +7,10 @@ use native.Mathlib.Nat.{add-assoc}
 use native.Mathlib.Omega.{arith}
 use native.Mathlib.Numerals.{add-one}
 use lib.Dec.{leb}
-use lib.ListN.{length, take, drop, set, length-append}
+use lib.ListN.{length, take, drop, set, length-append, length-drop}
 use lib.Seq.{paste, paste-zero, length-paste, take-paste, drop-paste, drop-drop, take-length, length-take-le, take-set-le, set-split, drop-at, append-snoc}
 use borrow.Author.Tests.{not-true, not-false, leb-true, leb-false, le-leb, lt-leb}
-use Rattle.lines.specs.Buffer.{written, Put, PutIn, lineBytes, hasRoom, PutLine}
+use Rattle.lines.specs.Buffer.{written, Put, PutIn, lineBytes, hasRoom, putLine}
 
 -- the buffer after a store
 pub written-one : (out : List ℕ) (at b : ℕ) → at < length out → set out at b ≡ written out at (b ∷ [])
@@ -93,18 +93,47 @@ room-no out at r e h = sym e ∙ not-true r h
 pub roomy : (out : List ℕ) (at : ℕ) → hasRoom out at ≡ true → at + lineBytes ≤ length out
 roomy out at h = leb-true (at + lineBytes) (length out) h
 
+-- a line function's answer and buffer, and that the line fits
+abbrev pub Line : List ℕ → ℕ → List ℕ → List ℕ → ℕ → Type 0
+Line out at text after next = ((next, after) ≡ putLine out at text) × (next ≤ at + lineBytes)
+
 -- with room for any line, and without
-pub line : {out text after : List ℕ} {at next : ℕ} → hasRoom out at ≡ true → PutIn lineBytes out at text after next → PutLine out at text after next
-line h p =
-    record { place = rw h (p .put .place); buffer = rw h (p .put .buffer); fits = omega (arith, p .put .place, p .short) }
+pub line : {out text after : List ℕ} {at next : ℕ} → hasRoom out at ≡ true → PutIn lineBytes out at text after next → Line out at text after next
+unfolding putLine
+line h p = (rw (h, p .put .place, p .put .buffer), omega (arith, p .put .place, p .short))
 
-pub no-line : {out text : List ℕ} {at : ℕ} → hasRoom out at ≡ false → PutLine out at text out at
-no-line h = record { place = rw h; buffer = rw h; fits = omega arith }
+pub no-line : (out text : List ℕ) (at : ℕ) → hasRoom out at ≡ false → Line out at text out at
+unfolding putLine
+no-line out text at h = (rw h, omega arith)
 
--- the text up to the next position grows by the line
-pub line-text : {out text after : List ℕ} {at next : ℕ} → PutLine out at text after next → at + lineBytes ≤ length out → take next after ≡ take at out ++ text
-line-text {out} {text} {after} {at} {next} p h =
-    let e = le-leb (at + lineBytes) (length out) h in
-    let place : next ≡ at + length text = rw e at (p .place) in
-    let buffer : after ≡ written out at text = rw e at (p .buffer) in
-    rw (place, buffer, take-paste out at text (length text) (omega arith) (omega arith), take-length)
+-- where there is room, the line stands behind what was written before
+module _ (out text : List ℕ) (at : ℕ) {after : List ℕ} {next : ℕ} (e : (next, after) ≡ putLine out at text) (h : hasRoom out at ≡ true) where
+  put-there : _≡_ {A = ℕ × List ℕ} (next, after) (at + length text, written out at text)
+  unfolding putLine
+  put-there = rw h at e
+
+  pub line-place : next ≡ at + length text
+  line-place = ap (λ (x : ℕ × List ℕ). x .0) put-there
+
+  pub line-buffer : after ≡ written out at text
+  line-buffer = ap (λ (x : ℕ × List ℕ). x .1) put-there
+
+-- the text up to the position behind a line grows by it
+pub line-text : (out text : List ℕ) (at : ℕ) → at ≤ length out → take (at + length text) (written out at text) ≡ take at out ++ text
+line-text out text at h = rw (take-paste out at text (length text) h (omega arith), take-length)
+
+-- no text makes a buffer shorter
+pub length-grows : (out : List ℕ) (at : ℕ) (text : List ℕ) → at ≤ length out → length out ≤ length (written out at text)
+length-grows out at text h = simp (length-append, take-length) (omega (arith, length-take-le at out h, length-drop (at + length text) out))
+
+-- the position behind a line lies within the buffer
+pub line-fits : (out text : List ℕ) (at : ℕ) {after : List ℕ} {next : ℕ} → (next, after) ≡ putLine out at text → next ≤ at + lineBytes → at ≤ length out
+    → next ≤ length out
+unfolding putLine
+line-fits out text at {after} {next} e f h = by (hasRoom out at) refl
+  where
+    by : (t : Bool) → hasRoom out at ≡ t → next ≤ length out
+    by true r = omega (arith, roomy out at r)
+    by false r =
+        let z : _≡_ {A = ℕ × List ℕ} (next, after) (at, out) = rw r at e in
+        omega (arith, ap (λ (x : ℕ × List ℕ). x .0) z)

@@ -24,18 +24,16 @@ pub record PutIn (most : ℕ) (out : List ℕ) (at : ℕ) (text after : List ℕ
 
 -- a blank, a process, a sign of equality, and a code
 abbrev pub wakingBytes : ℕ
-wakingBytes = 16
+wakingBytes = 23
 
 -- no line is longer
 abbrev pub lineBytes : ℕ
-lineBytes = 200
+lineBytes = 250
 
 -- is there room for any line?
 abbrev pub hasRoom : List ℕ → ℕ → Bool
 hasRoom out at = leb (at + lineBytes) (length out)
 
--- a line is written if there is room for any, else nothing is changed; it fits
-pub record PutLine (out : List ℕ) (at : ℕ) (line after : List ℕ) (next : ℕ) : Type 0 where
-  pub place : next ≡ cond (hasRoom out at) (at + length line) at
-  pub buffer : after ≡ cond (hasRoom out at) (written out at line) out
-  pub fits : next ≤ at + lineBytes
+-- a line is written if there is room for any, else nothing is changed: the position behind it, and the buffer
+unfoldable pub putLine : List ℕ → ℕ → List ℕ → ℕ × List ℕ
+putLine out at line = cond (hasRoom out at) (at + length line, written out at line) (at, out)

@@ -10,13 +10,13 @@ ghost use lib.ListN.{length, take};
 ghost use lib.IntN.{natAbs};
 ghost use Rattle.model.specs.Limits.{processes};
 ghost use Rattle.lines.specs.Text.{newline, digitsOf, signedOf, wordLine, headLine, badLine, wakingText, wakingsText, eventText, queryText};
-ghost use Rattle.lines.specs.Buffer.{Put, PutIn, PutLine, lineBytes, wakingBytes};
+ghost use Rattle.lines.specs.Buffer.{Put, PutIn, putLine, lineBytes, wakingBytes};
 use model::Queried;
 use model::Waking;
 use model::Wakings;
 
 // The room that a line function asks for.
-pub const LINE_BYTES: usize = 200;
+const LINE_BYTES: usize = 250;
 
 const BLANK: u8 = 32;
 
@@ -113,7 +113,7 @@ fn ended(out: &mut [u8], at: usize) -> usize
 }
 
 // Writes a waking as process=code, behind a blank.
-fn waking(out: &mut [u8], at: usize, process: u8, code: i32) -> usize
+fn waking(out: &mut [u8], at: usize, process: u32, code: i32) -> usize
     requires { ⌜ at + wakingBytes ≤ length (now out) ⌝ }
     ensures { λ r. ⌜ PutIn wakingBytes (now (out .entry)) at (wakingText process code) (now (out .exit)) r ⌝ }
 {
@@ -139,8 +139,8 @@ fn woken(out: &mut [u8], at: usize, count: usize, list: [Waking; model::PROCESSE
     next
 }
 
-// Is there room for any line?
-fn has_room(len: usize, at: usize) -> bool
+// Is there room for any line, from a position of a buffer of so many bytes on?
+pub fn has_room(len: usize, at: usize) -> bool
     ensures { λ r. ⌜ r ≡ leb (at + lineBytes) len ⌝ }
 {
     if len < LINE_BYTES {
@@ -162,7 +162,8 @@ fn worded(out: &mut [u8], at: usize, word: &[u8], n: usize) -> usize
 
 // The line before those of the events.
 pub fn head_line(out: &mut [u8], at: usize, n: usize) -> usize
-    ensures { λ r. ⌜ PutLine (now (out .entry)) at (headLine n) (now (out .exit)) r ⌝ }
+    ensures { λ r. ⌜ (r, now (out .exit)) ≡ putLine (now (out .entry)) at (headLine n) ⌝ }
+    ensures { λ r. ⌜ r ≤ at + lineBytes ⌝ }
 {
     if !has_room(out.len(), at) {
         return at;
@@ -172,7 +173,8 @@ pub fn head_line(out: &mut [u8], at: usize, n: usize) -> usize
 
 // The one line of a refused file.
 pub fn bad_line(out: &mut [u8], at: usize, code: u16) -> usize
-    ensures { λ r. ⌜ PutLine (now (out .entry)) at (badLine code) (now (out .exit)) r ⌝ }
+    ensures { λ r. ⌜ (r, now (out .exit)) ≡ putLine (now (out .entry)) at (badLine code) ⌝ }
+    ensures { λ r. ⌜ r ≤ at + lineBytes ⌝ }
 {
     if !has_room(out.len(), at) {
         return at;
@@ -213,7 +215,8 @@ pub fn event_line(
     looks: usize,
     w: Wakings,
 ) -> usize
-    ensures { λ r. ⌜ PutLine (now (out .entry)) at (eventText position code value looks (take (w .count) (w .list))) (now (out .exit)) r ⌝ }
+    ensures { λ r. ⌜ (r, now (out .exit)) ≡ putLine (now (out .entry)) at (eventText position code value looks (take (w .count) (w .list))) ⌝ }
+    ensures { λ r. ⌜ r ≤ at + lineBytes ⌝ }
 {
     if !has_room(out.len(), at) {
         return at;
@@ -246,7 +249,8 @@ fn queried(
 
 // The line of a query.
 pub fn query_line(out: &mut [u8], at: usize, position: usize, q: Queried) -> usize
-    ensures { λ r. ⌜ PutLine (now (out .entry)) at (queryText position (q .code) (q .value) (q .last) (q .increase) (q .zero)) (now (out .exit)) r ⌝ }
+    ensures { λ r. ⌜ (r, now (out .exit)) ≡ putLine (now (out .entry)) at (queryText position (q .code) (q .value) (q .last) (q .increase) (q .zero)) ⌝ }
+    ensures { λ r. ⌜ r ≤ at + lineBytes ⌝ }
 {
     if !has_room(out.len(), at) {
         return at;

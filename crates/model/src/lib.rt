@@ -112,9 +112,9 @@ pub enum Engine {
     Quick,
 }
 
-// A sleeper that was ended, and its code.
+// A sleeper that was ended, and its code: of one width, so that a list of wakings is copied without gaps.
 pub struct Waking {
-    pub process: u8,
+    pub process: u32,
     pub code: i32,
 }
 

@@ -1,7 +1,7 @@
 -- "Whole example, 44 bytes", from its bytes to its text, computed in both engines; and a refused file.
 use Prim.Native.Nat.{ℕ}
 use mathlib.Core.Path.{_≡_, refl}
-use mathlib.Core.List.{List, [], _∷_}
+use mathlib.Core.List.{List, [], _∷_, append-nil}
 use Rattle.model.specs.declared.Engine.{Engine}
 use Rattle.model.specs.declared.Engine.the-variants.{Plain, Quick}
 use Rattle.model.specs.Operation.{signed16, operationsFrom, isZero}
@@ -17,7 +17,7 @@ use Rattle.runfile.specs.Table.{countOf, entriesFrom, chains}
 use Rattle.runfile.specs.Body.{sizeOf, sizeAt, operationsAt, eventAt, bodyCode}
 use Rattle.runfile.specs.File.{fileOf, eventsOf, bad}
 use Rattle.lines.specs.Text.{digitsIn, digitsOf, signedOf, wordLine, badLine, wakingText, wakingsText, eventText, lineOf, textOf}
-use Rattle.replaying.specs.Replay.{textOfFile, replayed}
+use Rattle.replaying.specs.Replay.{firstLine, eventsIn, textOfFile, replayed}
 
 abbrev example : List ℕ
 example =
@@ -38,11 +38,11 @@ text =
     ∷ 50 ∷ 32 ∷ 48 ∷ 32 ∷ 48 ∷ 32 ∷ 49 ∷ 32 ∷ 49 ∷ 61 ∷ 48 ∷ 10 ∷ []
 
 whole-example : (engine : Engine) → replayed engine example ≡ text
-unfolding textOfFile textOf lineOf eventText wakingsText wakingText wordLine signedOf digitsOf digitsIn fileOf eventsOf bodyCode eventAt operationsAt sizeAt sizeOf chains entriesFrom countOf signed32 wordAt run event doCreate operated doOperate identifierOf slotOf namesSet noProcess asleep numberTooHigh permitted freeFrom checkCreate checkOperate clearRows cleared waker plain quick plainRound quickRound finish without look lastsAfter applied after valuesOf adjustmentsOf judgeFrom goOn step nextValue nextAdjustment codeOf finishes operationsFrom signed16 isZero unmark marked namedBy differing mine maskOf
+unfolding firstLine eventsIn textOfFile textOf lineOf eventText wakingsText wakingText wordLine signedOf digitsOf digitsIn fileOf eventsOf bodyCode eventAt operationsAt sizeAt sizeOf chains entriesFrom countOf signed32 wordAt run event doCreate operated doOperate identifierOf slotOf namesSet noProcess asleep numberTooHigh permitted freeFrom checkCreate checkOperate clearRows cleared waker plain quick plainRound quickRound finish without look lastsAfter applied after valuesOf adjustmentsOf judgeFrom goOn step nextValue nextAdjustment codeOf finishes operationsFrom signed16 isZero unmark marked namedBy differing mine maskOf
 whole-example Plain = refl
 whole-example Quick = refl
 
 -- "A refused file writes one line", whatever its events would have done
 pub refused-alone : (engine : Engine) (file : List ℕ) (code : ℕ) → fileOf file ≡ bad code → replayed engine file ≡ badLine code
-unfolding textOfFile
-refused-alone engine file code e = rw e
+unfolding firstLine eventsIn textOfFile textOf
+refused-alone engine file code e = rw e (append-nil (badLine code))

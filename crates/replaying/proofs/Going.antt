@@ -1,71 +1,66 @@
--- How far a piece has come: the invariant of its loop, and what it comes to.
+-- How far a piece has come: a turn of its definition, and the invariant of its loop.
 use Prim.Native.Nat.{ℕ, zero, suc, _+_, _-_, _<_, _≤_}
-use mathlib.Core.Path.{_≡_, refl, sym, ap, _∙_}
-use mathlib.Core.List.{List, _++_, append-assoc}
+use mathlib.Core.Path.{_≡_, refl, sym, _∙_}
+use mathlib.Core.Bool.{true, false}
+use mathlib.Core.List.{List}
 use native.Mathlib.Omega.{arith}
-use lib.ListN.{length, take}
+use lib.ListN.{length}
 use Rattle.model.specs.declared.Engine.{Engine}
 use Rattle.model.specs.declared.Host.{Host}
 use Rattle.runfile.specs.Body.{nextAt}
+use Rattle.lines.specs.Buffer.{written, hasRoom}
+use Rattle.lines.proofs.Writing.{roomy, line-place, line-buffer}
 use Rattle.replaying.specs.declared.Progress.{Progress}
-use Rattle.replaying.specs.Replay.{onward, ahead, Came, went, rest, Went}
-use Rattle.replaying.proofs.Turns.{progress, rest-turn}
+use Rattle.replaying.specs.Replay.{onward, nextLine, Came, went, wrote, pieceFrom, pieceOf}
+use Rattle.replaying.proofs.Turns.{progress, none}
 use Rattle.replaying.proofs.Arms.{Turned}
 
--- from `p` to `q`, with so many bytes written
-pub record Going (engine : Engine) (file : List ℕ) (p q : Progress) (out : List ℕ) (next : ℕ) : Type 0 where
-  pub progress : q ≡ ahead engine file p (p .left - q .left)
+-- with room and an event left the piece goes on; else it ends
+module _ (engine : Engine) (file : List ℕ) (p : Progress) (at : ℕ) (out : List ℕ) where
+  pub piece-turn : (n : ℕ) → 0 < n → hasRoom out at ≡ true
+      → pieceFrom n engine file p at out
+      ≡ pieceFrom (n - 1) engine file (onward engine file p) (at + length (nextLine engine file p)) (written out at (nextLine engine file p))
+  unfolding pieceFrom
+  piece-turn zero l h = none l
+  piece-turn (suc n) l h = let e : suc n - 1 ≡ n = omega arith in rw (h, e)
+
+  pub piece-over : (n : ℕ) → n ≡ 0 → pieceFrom n engine file p at out ≡ (wrote p at, out)
+  unfolding pieceFrom
+  piece-over n h = rw h
+
+  pub piece-full : (n : ℕ) → hasRoom out at ≡ false → pieceFrom n engine file p at out ≡ (wrote p at, out)
+  unfolding pieceFrom
+  piece-full zero h = refl
+  piece-full (suc n) h = rw h
+
+-- from `p` to `q`, with so many bytes written: what the definition gives from here is what it gives from the start
+pub record Going (engine : Engine) (file : List ℕ) (p : Progress) (out₀ : List ℕ) (q : Progress) (out : List ℕ) (next : ℕ) : Type 0 where
   pub came : Came file q
+  pub same : pieceFrom (q .left) engine file q next out ≡ pieceOf engine file p out₀
   pub fits : next ≤ length out
-  pub text : rest engine file p ≡ take next out ++ rest engine file q
-  pub fewer : q .left ≤ p .left
-  pub moved : 0 < next → q .left < p .left
+  pub size : length out ≡ length out₀
 
-pub begins : (engine : Engine) (file : List ℕ) (p : Progress) (out : List ℕ) → Came file p → Going engine file p p out 0
-unfolding ahead
-begins engine file p out k =
-    record {
-      progress = let e : p .left - p .left ≡ zero = omega arith in rw e;
-      came = k;
-      fits = omega arith;
-      text = refl;
-      fewer = omega arith;
-      moved = λ h. absurd (none h);
-    }
-  where
-    none : 0 < 0 → ⊥
-    none z = omega arith
+pub begins : (engine : Engine) (file : List ℕ) (p : Progress) (out : List ℕ) → Came file p → Going engine file p out p out 0
+begins engine file p out k = record { came = k; same = refl; fits = omega arith; size = refl }
 
-module _ {engine : Engine} {file : List ℕ} {p q : Progress} {out : List ℕ} {next : ℕ} (g : Going engine file p q out next) where
+module _ {engine : Engine} {file : List ℕ} {p : Progress} {out₀ : List ℕ} {q : Progress} {out : List ℕ} {next : ℕ} (g : Going engine file p out₀ q out next) where
   -- one more event
-  pub goes-on : {h′ : Host} {out′ : List ℕ} {next′ at′ : ℕ} → 0 < q .left → at′ ≡ nextAt file (q .at) → Turned engine file q out next h′ out′ next′
-      → Going engine file p (progress h′ (q .position + 1) (q .left - 1) at′) out′ next′
-  unfolding onward ahead
-  goes-on {h′} {out′} {next′} {at′} h a t =
+  pub goes-on : {h′ : Host} {out′ : List ℕ} {next′ at′ : ℕ} → 0 < q .left → hasRoom out next ≡ true → length out′ ≡ length out
+      → at′ ≡ nextAt file (q .at) → Turned engine file q out next h′ out′ next′
+      → Going engine file p out₀ (progress h′ (q .position + 1) (q .left - 1) at′) out′ next′
+  unfolding onward
+  goes-on {h′} {out′} {next′} {at′} h r same a t =
       rw (t .host, a)
       (record {
-        progress = rw (later (p .left) (q .left) h (g .fewer)) (ap (onward engine file) (g .progress));
         came = went (g .came) h engine;
-        fits = omega (arith, t .fits, t .room);
-        text = g .text ∙ ap (λ (s : List ℕ). take next out ++ s) (rest-turn (g .came) h engine) ∙ rw (t .text) (sym (append-assoc (take next out) _ _));
-        fewer = omega (arith, g .fewer);
-        moved = λ m. omega (arith, g .fewer);
+        same = rw (line-place out (nextLine engine file q) next (t .put) r, line-buffer out (nextLine engine file q) next (t .put) r) (sym (piece-turn engine file q next out (q .left) h r) ∙ g .same);
+        fits = omega (arith, t .fits, roomy out next r);
+        size = same ∙ g .size;
       })
-    where
-      later : (m n : ℕ) → 0 < n → n ≤ m → m - (n - 1) ≡ suc (m - n)
-      later m n h l = omega arith
 
   -- the end: no event is left, or there is no room
-  pub ends : ((0 < p .left) → q .left < p .left) → Went engine file p out (record { progress = q; written = next })
-  ends o =
-      record { progress = g .progress; came = g .came; fits = g .fits; text = g .text; onwards = o; still = λ z. still z }
-    where
-      still : p .left ≡ 0 → next ≡ 0
-      still z = by next (g .moved)
-        where
-          by : (n : ℕ) → (0 < n → q .left < p .left) → n ≡ 0
-          by zero m = refl
-          by (suc n) m = absurd (no (m (omega arith)))
-            where
-              no : q .left < p .left → ⊥
-              no l = omega arith
+  pub ends-over : q .left ≡ 0 → (wrote q next, out) ≡ pieceOf engine file p out₀
+  ends-over h = sym (piece-over engine file q next out (q .left) h) ∙ g .same
+
+  pub ends-full : hasRoom out next ≡ false → (wrote q next, out) ≡ pieceOf engine file p out₀
+  ends-full h = sym (piece-full engine file q next out (q .left) h) ∙ g .same

@@ -6,28 +6,32 @@ use native.Mathlib.Omega.{arith}
 use lib.ListN.{length}
 use Rattle.model.specs.declared.Engine.{Engine}
 use Rattle.model.specs.declared.Host.{Host}
-use Rattle.model.specs.State.{State, Sleeper, freshState}
-use Rattle.model.specs.Runs.{Reached, start, came, run}
+use Rattle.model.specs.State.{freshState}
+use Rattle.model.specs.Runs.{start, came, run}
 use Rattle.model.specs.Layout.{Held, hostOf, stateOf}
-use Rattle.model.proofs.Engines.{reached}
-use Rattle.model.proofs.LayoutLaws.{queued, queue-back}
-use Rattle.runfile.specs.Table.{fileMax, tableEnd, countOf}
 use Rattle.model.proofs.Held.{state-back, held-of}
+use Rattle.runfile.specs.Table.{fileMax, tableEnd, countOf}
 use Rattle.runfile.specs.Body.{eventAt, nextAt, eventsFrom}
 use Rattle.runfile.specs.File.{codeOfFile}
-use Rattle.runfile.proofs.Walk.{Body, Bodies, end, is-good, good-events, good-bodies, bad-code, events-turn, body-turn}
-use Rattle.lines.specs.Text.{lineOf, textOf}
+use Rattle.runfile.proofs.Walk.{Body, Bodies, is-good, good-events, good-bodies, bad-code, events-turn, body-turn}
+use Rattle.lines.specs.Text.{textOf}
 use Rattle.replaying.specs.declared.Progress.{Progress}
-use Rattle.replaying.specs.Replay.{begun, startOf, nextResult, onward, Came, started, went, rest}
+use Rattle.replaying.specs.Replay.{eventsIn, startOf, nextLine, onward, Came, started, went}
 
 abbrev pub progress : Host → ℕ → ℕ → ℕ → Progress
 progress host position left at = record { host = host; position = position; left = left; at = at }
+
+pub none : {X : Type 0} → 0 < 0 → X
+none h = absurd (no h)
+  where
+    no : 0 < 0 → ⊥
+    no z = omega arith
 
 -- ---- what a progress that came so has: a host that holds a state, the bodies that are left, and positions that fit
 
 pub record Ready (file : List ℕ) (p : Progress) : Type 0 where
   pub held : Held (p .host)
-  pub bodies : Bodies file (p .at) (p .left)
+  pub bodies : 0 < p .left → Bodies file (p .at) (p .left)
   pub few : p .position + p .left ≤ fileMax
 
 pub length-events : (file : List ℕ) (at n : ℕ) → length (eventsFrom file at n) ≡ n
@@ -48,19 +52,19 @@ module _ (file : List ℕ) (at n : ℕ) (h : 0 < n) where
 
 -- the start of a refused file, and of a good one
 module _ (file : List ℕ) where
-  pub start-bad : (codeOfFile file ≡ 0 → ⊥) → startOf file ≡ progress (hostOf freshState) 0 0 (length file)
-  unfolding begun
+  pub start-bad : (codeOfFile file ≡ 0 → ⊥) → startOf file ≡ progress (hostOf freshState) 0 0 (tableEnd 0)
+  unfolding startOf eventsIn
   start-bad h = rw (bad-code file h)
 
   pub start-good : codeOfFile file ≡ 0 → startOf file ≡ progress (hostOf freshState) 0 (countOf file) (tableEnd (countOf file))
-  unfolding begun
+  unfolding startOf eventsIn
   start-good h = rw (good-events file h, length-events file (tableEnd (countOf file)) (countOf file))
 
   start-ready : (code : ℕ) → codeOfFile file ≡ code → Ready file (startOf file)
   start-ready zero h =
-      rw (start-good h) (record { held = held-of start; bodies = good-bodies file h; few = omega (arith, is-good file h .short, is-good file h .table) })
+      rw (start-good h) (record { held = held-of start; bodies = λ l. good-bodies file h; few = omega (arith, is-good file h .short, is-good file h .table) })
   start-ready (suc n) h =
-      rw (start-bad (λ z. no n (sym h ∙ z))) (record { held = held-of start; bodies = end refl; few = omega arith })
+      rw (start-bad (λ z. no n (sym h ∙ z))) (record { held = held-of start; bodies = λ l. none l; few = omega arith })
     where
       no : (m : ℕ) → suc m ≡ 0 → ⊥
       no m z = omega arith
@@ -72,20 +76,25 @@ ready {file} (went {p} k h engine) =
     let r : Ready file p = ready k in
     record {
       held = held-of (came (r .held .reached) engine (eventAt file (p .at)));
-      bodies = first-body file (p .at) (p .left) h (r .bodies) .1;
+      bodies = λ l. first-body file (p .at) (p .left) h (r .bodies h) .1;
       few = omega (arith, r .few);
     }
 
 -- ---- the next event
 
+-- the text that is still to be written
+unfoldable pub rest : Engine → List ℕ → Progress → List ℕ
+rest engine file p =
+    let es = eventsFrom file (p .at) (p .left) in
+    textOf (p .position) es (run engine (stateOf (p .host)) es .results)
+
 module _ {file : List ℕ} {p : Progress} (k : Came file p) (h : 0 < p .left) where
   pub next-body : Body file (p .at)
-  next-body = first-body file (p .at) (p .left) h (ready k .bodies) .0
+  next-body = first-body file (p .at) (p .left) h (ready k .bodies h) .0
 
   -- its line, and then what is left behind it
-  pub rest-turn : (engine : Engine)
-      → rest engine file p ≡ lineOf (p .position) (eventAt file (p .at)) (nextResult engine file p) ++ rest engine file (onward engine file p)
-  unfolding rest onward run textOf
+  pub rest-turn : (engine : Engine) → rest engine file p ≡ nextLine engine file p ++ rest engine file (onward engine file p)
+  unfolding rest onward nextLine run textOf
   rest-turn engine =
       let e = state-back (came (ready k .held .reached) engine (eventAt file (p .at))) in
       rw (first-event file (p .at) (p .left) h, e)

@@ -1,45 +1,56 @@
--- The text of a run file under an engine ("The run file"), whole and from any point on.
-use Prim.Native.Nat.{ℕ, zero, suc, _+_, _-_, _<_, _≤_}
-use mathlib.Core.Path.{_≡_}
+-- The text of a run file under an engine ("The run file"), whole and piece by piece.
+use Prim.Native.Nat.{ℕ, zero, suc, _+_, _-_, _<_}
+use mathlib.Core.Bool.{cond}
 use mathlib.Core.List.{List, [], _++_}
+use lib.Dec.{ltb}
 use lib.ListN.{length, take}
 use Rattle.model.specs.declared.Engine.{Engine}
 use Rattle.model.specs.State.{freshState}
 use Rattle.model.specs.Waking.{waker}
-use Rattle.model.specs.Events.{Result, event}
+use Rattle.model.specs.Events.{Event, Result, event}
 use Rattle.model.specs.Runs.{run}
 use Rattle.model.specs.Layout.{hostOf, stateOf}
 use Rattle.runfile.specs.Table.{tableEnd}
-use Rattle.runfile.specs.Body.{eventAt, nextAt, eventsFrom}
+use Rattle.runfile.specs.Body.{eventAt, nextAt}
 use Rattle.runfile.specs.File.{File, bad, good, fileOf}
-use Rattle.lines.specs.Text.{headLine, badLine, textOf}
+use Rattle.lines.specs.Text.{headLine, badLine, lineOf, textOf}
+use Rattle.lines.specs.Buffer.{written, hasRoom, putLine}
 use Rattle.replaying.specs.declared.Progress.{Progress}
 use Rattle.replaying.specs.declared.Wrote.{Wrote}
 
--- "A refused file writes one line, `bad` and the code. Otherwise the program (standard input, fresh host) writes `events` and
--- the number, then a line for each"
-unfoldable pub textOfFile : Engine → File → List ℕ
-textOfFile engine (bad code) = badLine code
-textOfFile engine (good es) = headLine (length es) ++ textOf 0 es (run engine freshState es .results)
+-- ---- the whole text
 
--- the whole text of a file
+-- "A refused file writes one line, `bad` and the code. Otherwise the program writes `events` and the number"
+unfoldable pub firstLine : File → List ℕ
+firstLine (bad code) = badLine code
+firstLine (good es) = headLine (length es)
+
+-- a refused file "is refused before any event": none of its events runs
+unfoldable pub eventsIn : File → List Event
+eventsIn (bad code) = []
+eventsIn (good es) = es
+
+-- "(standard input, fresh host) .. then a line for each"
+unfoldable pub textOfFile : Engine → File → List ℕ
+textOfFile engine f = firstLine f ++ textOf 0 (eventsIn f) (run engine freshState (eventsIn f) .results)
+
 abbrev pub replayed : Engine → List ℕ → List ℕ
 replayed engine file = textOfFile engine (fileOf file)
 
 -- ---- how far a replay has come
 
--- behind the first line: the host is fresh, all events are left, and their bodies lie behind the table. Of a refused file none
--- is left: it "is refused before any event".
-unfoldable pub begun : List ℕ → File → Progress
-begun file (bad code) = record { host = hostOf freshState; position = 0; left = 0; at = length file }
-begun file (good es) = record { host = hostOf freshState; position = 0; left = length es; at = tableEnd (length es) }
+-- behind the first line: the host is fresh, all events are left, and their bodies lie behind the table
+unfoldable pub startOf : List ℕ → Progress
+startOf file =
+    let n = length (eventsIn (fileOf file)) in
+    record { host = hostOf freshState; position = 0; left = n; at = tableEnd n }
 
-abbrev pub startOf : List ℕ → Progress
-startOf file = begun file (fileOf file)
-
--- what the engine gives for the next event
+-- what the engine gives for the next event, and its line
 abbrev pub nextResult : Engine → List ℕ → Progress → Result
 nextResult engine file p = event (waker engine) (stateOf (p .host)) (eventAt file (p .at))
+
+unfoldable pub nextLine : Engine → List ℕ → Progress → List ℕ
+nextLine engine file p = lineOf (p .position) (eventAt file (p .at)) (nextResult engine file p)
 
 -- behind the next event
 unfoldable pub onward : Engine → List ℕ → Progress → Progress
@@ -60,33 +71,38 @@ pub data Came (file : List ℕ) : Progress → Type 0 where
   started : Came file (startOf file)
   went : {p : Progress} → Came file p → 0 < p .left → (engine : Engine) → Came file (onward engine file p)
 
--- the text that is still to be written
-unfoldable pub rest : Engine → List ℕ → Progress → List ℕ
-rest engine file p =
-    let es = eventsFrom file (p .at) (p .left) in
-    textOf (p .position) es (run engine (stateOf (p .host)) es .results)
+-- ---- piece by piece, each into a lent buffer
 
--- ---- what the functions promise
+abbrev pub wrote : Progress → ℕ → Wrote
+wrote p n = record { progress = p; written = n }
 
--- after a start: what is written, and what is left, is the whole text
-pub record Begun (file out : List ℕ) (r : Wrote) : Type 0 where
-  pub progress : r .progress ≡ startOf file
-  pub came : Came file (r .progress)
-  pub fits : r .written ≤ length out
-  pub text : (engine : Engine) → replayed engine file ≡ take (r .written) out ++ rest engine file (r .progress)
+-- what a start answers, and the buffer after it
+unfoldable pub begun : List ℕ → List ℕ → Wrote × List ℕ
+begun file out =
+    let put = putLine out 0 (firstLine (fileOf file)) in
+    (wrote (startOf file) (put .0), put .1)
 
--- after a piece: what is written, and what is left, is what was left before. How many events it runs is its own choice, but
--- one at least where any is left.
-pub record Went (engine : Engine) (file : List ℕ) (p : Progress) (out : List ℕ) (r : Wrote) : Type 0 where
-  pub progress : r .progress ≡ ahead engine file p (p .left - r .progress .left)
-  pub came : Came file (r .progress)
-  pub fits : r .written ≤ length out
-  pub text : rest engine file p ≡ take (r .written) out ++ rest engine file (r .progress)
-  pub onwards : 0 < p .left → r .progress .left < p .left
-  pub still : p .left ≡ 0 → r .written ≡ 0
+-- events run, and their lines stand one behind the other from a position on, while any is left and any line has room. The
+-- first number is that of the events left.
+unfoldable pub pieceFrom : ℕ → Engine → List ℕ → Progress → ℕ → List ℕ → Wrote × List ℕ
+pieceFrom zero engine file p at out = (wrote p at, out)
+pieceFrom (suc n) engine file p at out =
+    let line = nextLine engine file p in
+    cond (hasRoom out at) (pieceFrom n engine file (onward engine file p) (at + length line) (written out at line)) (wrote p at, out)
 
--- pieces one after another, to where no event is left, and the text that they wrote
-pub data Pieces (engine : Engine) (file : List ℕ) : Progress → List ℕ → Type 0 where
-  over : {p : Progress} → p .left ≡ 0 → Pieces engine file p []
-  one : {p : Progress} {out : List ℕ} {r : Wrote} {more : List ℕ} → Went engine file p out r → Pieces engine file (r .progress) more
-      → Pieces engine file p (take (r .written) out ++ more)
+-- what a piece answers, and the buffer after it
+abbrev pub pieceOf : Engine → List ℕ → Progress → List ℕ → Wrote × List ℕ
+pieceOf engine file p out = pieceFrom (p .left) engine file p 0 out
+
+-- the texts of pieces one after another, while any event is left; the first number is at least that of the pieces
+unfoldable pub textsFrom : ℕ → Engine → List ℕ → Progress → List ℕ → List ℕ
+textsFrom zero engine file p out = []
+textsFrom (suc n) engine file p out =
+    let w = pieceOf engine file p out in
+    cond (ltb 0 (p .left)) (take (w .0 .written) (w .1) ++ textsFrom n engine file (w .0 .progress) (w .1)) []
+
+-- the text of a start and of all pieces behind it
+unfoldable pub together : Engine → List ℕ → List ℕ → List ℕ
+together engine file out =
+    let w = begun file out in
+    take (w .0 .written) (w .1) ++ textsFrom (w .0 .progress .left) engine file (w .0 .progress) (w .1)

@@ -1,12 +1,19 @@
 // Replays a run file: the file goes in, the text of its lines comes out, piece by piece.
 //
 // `start` checks the file and writes the first line; `piece` runs events and writes their lines while there is room for one
-// more. What a piece wrote, and what the progress has left, is what was left before (specs/Replay.antt); so the pieces put
-// together are the whole text (proofs/Whole.antt).
+// more. Each promises one equation with its definition in specs/Replay.antt; proofs/Whole.antt has that the pieces put
+// together are the whole text.
 ghost use mathlib.Core.Path.{_≡_};
-ghost use Rattle.replaying.specs.Replay.{Begun, Came, Went};
+ghost use Prim.Native.Nat.{_≤_};
+ghost use lib.ListN.{length};
+ghost use Rattle.replaying.specs.Replay.{Came, begun, pieceOf};
+
+mod body;
+
+use body::step_at;
 use lines::bad_line;
 use lines::event_line;
+use lines::has_room;
 use lines::head_line;
 use lines::query_line;
 use model::Engine;
@@ -16,22 +23,10 @@ use model::Step;
 use model::Waking;
 use model::Wakings;
 use model::fresh;
-use runfile::byte_at;
 use runfile::half_at;
 use runfile::signed_at;
 use runfile::size_at;
-use service::create;
-use service::exit;
-use service::operate;
 use service::query;
-use service::remove;
-use service::set_value;
-use service::signal;
-
-// The bytes of a piece, and the last position in it with room for one more line.
-pub const PIECE_BYTES: usize = 65536;
-
-const LAST_LINE: usize = PIECE_BYTES - lines::LINE_BYTES;
 
 // How far a replay has come: the host, the position of the next event, how many are left, and where the next body begins.
 pub struct Progress {
@@ -48,31 +43,26 @@ pub struct Wrote {
 }
 
 // The first line: how many events there are, or the code of a refused file, of which nothing is left to run.
-pub fn start(file: &[u8], out: &mut [u8; PIECE_BYTES]) -> Wrote
-    ensures { λ r. ⌜ Begun (now (file .entry)) (now (out .exit)) r ⌝ }
+pub fn start(file: &[u8], out: &mut [u8]) -> Wrote
+    ensures { λ r. ⌜ (r, now (out .exit)) ≡ begun (now (file .entry)) (now (out .entry)) ⌝ }
+    ensures { λ r. ⌜ r .written ≤ length (now (out .exit)) ⌝ }
 {
     let code = runfile::code(file);
-    let host = fresh();
-    if code != 0 {
-        let written = bad_line(out, 0, code);
-        return Wrote {
-            progress: Progress {
-                host: host,
-                position: 0,
-                left: 0,
-                at: file.len(),
-            },
-            written: written,
-        };
+    let mut left = 0;
+    let mut written = 0;
+    if code == 0 {
+        left = runfile::count(file);
+        written = head_line(out, 0, left);
+    } else {
+        written = bad_line(out, 0, code);
     }
-    let n = runfile::count(file);
-    let written = head_line(out, 0, n);
+    let host = fresh();
     Wrote {
         progress: Progress {
             host: host,
             position: 0,
-            left: n,
-            at: runfile::HEAD_BYTES + runfile::ENTRY_BYTES * n,
+            left: left,
+            at: runfile::HEAD_BYTES + runfile::ENTRY_BYTES * left,
         },
         written: written,
     }
@@ -99,11 +89,11 @@ fn still(host: Host) -> Step
     }
 }
 
-// Runs events, each body by its kind, and writes their lines. From turn to turn the step is kept, and each arm takes the host
-// out of it by itself: so the host is copied into an event and out of it, and no more.
-pub fn piece(engine: Engine, file: &[u8], p: Progress, out: &mut [u8; PIECE_BYTES]) -> Wrote
+// Runs events and writes their lines. From turn to turn the step of the last one is kept: its host is the next one's.
+pub fn piece(engine: Engine, file: &[u8], p: Progress, out: &mut [u8]) -> Wrote
     requires { ⌜ Came (now file) p ⌝ }
-    ensures { λ r. ⌜ Went engine (now (file .entry)) p (now (out .exit)) r ⌝ }
+    ensures { λ r. ⌜ (r, now (out .exit)) ≡ pieceOf engine (now (file .entry)) p (now (out .entry)) ⌝ }
+    ensures { λ r. ⌜ r .written ≤ length (now (out .exit)) ⌝ }
 {
     let host = p.host;
     let mut step = still(host);
@@ -112,60 +102,16 @@ pub fn piece(engine: Engine, file: &[u8], p: Progress, out: &mut [u8; PIECE_BYTE
     let mut at = p.at;
     let mut next = 0;
     while 0 < left {
-        if LAST_LINE < next {
+        if !has_room(out.len(), next) {
             break;
         }
-        let kind = file[at];
-        let end = at + size_at(file, at);
-        if kind == 7 {
+        if file[at] == 7 {
             let host = step.host;
             let answer = query(host, signed_at(file, at + 1), half_at(file, at + 5));
             next = query_line(out, next, position, answer);
         } else {
-            let from = at + 7;
-            match kind {
-                1 => {
-                    let host = step.host;
-                    step = create(
-                        host,
-                        byte_at(file, at + 1),
-                        byte_at(file, at + 2),
-                        byte_at(file, at + 3),
-                    );
-                }
-                2 => {
-                    let host = step.host;
-                    step = operate(
-                        engine,
-                        host,
-                        byte_at(file, at + 1),
-                        signed_at(file, at + 2),
-                        &file[from..end],
-                    );
-                }
-                3 => {
-                    let host = step.host;
-                    step = set_value(
-                        engine,
-                        host,
-                        signed_at(file, at + 1),
-                        half_at(file, at + 5),
-                        signed_at(file, at + 7),
-                    );
-                }
-                4 => {
-                    let host = step.host;
-                    step = remove(host, signed_at(file, at + 1));
-                }
-                5 => {
-                    let host = step.host;
-                    step = signal(host, byte_at(file, at + 1));
-                }
-                _ => {
-                    let host = step.host;
-                    step = exit(engine, host, byte_at(file, at + 1));
-                }
-            }
+            let host = step.host;
+            step = step_at(engine, host, file, at);
             let wakings = step.wakings;
             next = event_line(
                 out,
@@ -177,7 +123,7 @@ pub fn piece(engine: Engine, file: &[u8], p: Progress, out: &mut [u8; PIECE_BYTE
                 wakings,
             );
         }
-        at = end;
+        at += size_at(file, at);
         position += 1;
         left -= 1;
     }

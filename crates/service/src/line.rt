@@ -68,7 +68,7 @@ pub fn note(wakings: Wakings, process: u8, code: i32) -> Wakings
     let at = wakings.count;
     let mut list = wakings.list;
     let waking = Waking {
-        process: process,
+        process: process as u32,
         code: code,
     };
     list[at] = waking;

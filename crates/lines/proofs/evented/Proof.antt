@@ -58,10 +58,10 @@ abbrev of-wakings : tie.After-woken → tie.Start
 of-wakings c = of-looks (c .before .before .before .before .before)
 
 woken-requires : tie.Need-woken-requires
-woken-requires c κs = room-left 128 (looks-put (c .before .before .before .before)) (search needs)
+woken-requires c κs = room-left 184 (looks-put (c .before .before .before .before)) (search needs)
 
-wakings-put : (c : tie.After-woken) → let s = of-wakings c in Far 192 s (digitsOf (s .args .position) ++ blank ∷ signedOf (s .args .code) ++ blank ∷ digitsOf (s .args .value) ++ blank ∷ digitsOf (s .args .looks) ++ wakingsText (take (s .args .w .count) (s .args .w .list))) (c .woken .last .0) (c .woken .result)
-wakings-put c = let s = of-wakings c in also 128 (looks-put (c .before .before .before .before .before)) (c .woken .ensures .put) (c .woken .ensures .short)
+wakings-put : (c : tie.After-woken) → let s = of-wakings c in Far 248 s (digitsOf (s .args .position) ++ blank ∷ signedOf (s .args .code) ++ blank ∷ digitsOf (s .args .value) ++ blank ∷ digitsOf (s .args .looks) ++ wakingsText (take (s .args .w .count) (s .args .w .list))) (c .woken .last .0) (c .woken .result)
+wakings-put c = let s = of-wakings c in also 184 (looks-put (c .before .before .before .before .before)) (c .woken .ensures .put) (c .woken .ensures .short)
 
 ended-requires : tie.Need-ended-requires
 ended-requires c κs = room-left 1 (wakings-put (c .before .before .before)) (search needs)

@@ -13,7 +13,7 @@ has-room-requires c κs = search needs
 returns : tie.Need-returns
 returns c =
     let s = c .before .before .before in
-    no-line (room-no (s .args .out .now) (s .args .at) (c .before .has-room .result) (c .before .has-room .ensures) (c .if1 .taken))
+    no-line (s .args .out .now) _ (s .args .at) (room-no (s .args .out .now) (s .args .at) (c .before .has-room .result) (c .before .has-room .ensures) (c .if1 .taken))
 
 slice-aggregate-worded : tie.Need-slice-aggregate-worded
 slice-aggregate-worded c = search needs

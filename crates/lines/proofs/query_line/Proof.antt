@@ -15,7 +15,7 @@ has-room-requires c κs = search needs
 returns : tie.Need-returns
 returns c =
     let s = c .before .before .before in
-    no-line (room-no (s .args .out .now) (s .args .at) (c .before .has-room .result) (c .before .has-room .ensures) (c .if1 .taken))
+    no-line (s .args .out .now) _ (s .args .at) (room-no (s .args .out .now) (s .args .at) (c .before .has-room .result) (c .before .has-room .ensures) (c .if1 .taken))
 
 room : (c : tie.Else1) → hasRoom (c .before .before .before .args .out .now) (c .before .before .before .args .at) ≡ true
 room c =

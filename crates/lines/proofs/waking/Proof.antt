@@ -1,7 +1,7 @@
 -- `lines::waking` meets its contract.
 use mathlib.Core.List.{_∷_}
 use native.Mathlib.Omega.{arith}
-use mir.Syntax.{w8}
+use mir.Syntax.{w32}
 use mir.Facts.{toZ-ofZ}
 use borrow.Author.Needs.{needs}
 use Rattle.lines.specs.Text.{blank, digitsOf, wakingText}
@@ -13,11 +13,11 @@ use Rattle.lines.proofs.waking.Statement.{statement}
 use Rattle.lines.proofs.waking.Tie as tie
 
 marked-requires : tie.Need-marked-requires
-marked-requires c κs = omega (arith, digits-fit w8 2 tt (c .before .before .fits .process))
+marked-requires c κs = omega (arith, digits-fit w32 9 tt (c .before .before .fits .process))
 
 process-put : (c : tie.After-marked)
-    → PutIn 4 (c .before .before .before .args .out .now) (c .before .before .before .args .at) (blank ∷ digitsOf (c .before .before .before .args .process)) (c .marked .last .0) (c .marked .result)
-process-put c = record { put = c .marked .ensures; short = omega (arith, digits-fit w8 2 tt (c .before .before .before .fits .process)) }
+    → PutIn 11 (c .before .before .before .args .out .now) (c .before .before .before .args .at) (blank ∷ digitsOf (c .before .before .before .args .process)) (c .marked .last .0) (c .marked .result)
+process-put c = record { put = c .marked .ensures; short = omega (arith, digits-fit w32 9 tt (c .before .before .before .fits .process)) }
 
 signed-requires : tie.Need-signed-requires
 signed-requires c κs =

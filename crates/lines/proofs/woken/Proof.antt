@@ -10,7 +10,7 @@ use mir.Facts.{toZ-ofZ}
 use borrow.Author.Needs.{needs}
 use Rattle.model.specs.Layout.{noWaking}
 use Rattle.lines.specs.Text.{wakingsText}
-use Rattle.lines.specs.Buffer.{PutIn}
+use Rattle.lines.specs.Buffer.{PutIn, wakingBytes}
 use Rattle.lines.proofs.Writing.{nothing, also, room-left, at-most, put-length}
 use Rattle.lines.proofs.Wakings.{wakings-more}
 use Rattle.lines.proofs.woken.Statement.{statement}
@@ -18,7 +18,7 @@ use Rattle.lines.proofs.woken.Tie as tie
 
 abbrev Inv-loop : tie.InvT-loop
 Inv-loop out₀ at count list next₀ k₀ out next k =
-    (k ≤ 8) × (k ≤ count) × PutIn (16 * k) out₀ at (wakingsText (take k list)) out next
+    (k ≤ 8) × (k ≤ count) × PutIn (wakingBytes * k) out₀ at (wakingsText (take k list)) out next
 
 abbrev μ-loop : tie.MeasureT-loop
 μ-loop out₀ at count list next₀ k₀ out next k = 8 - k
@@ -44,7 +44,7 @@ array-copy-out-one : tie.Need-array-copy-out-one Inv-loop μ-loop
 array-copy-out-one c = omega arith
 
 waking-requires : tie.Need-waking-requires Inv-loop μ-loop
-waking-requires c κs = let l = c .before .before .before .before .before .loop in room-left 16 (l .inv .2) (omega arith)
+waking-requires c κs = let l = c .before .before .before .before .before .loop in room-left wakingBytes (l .inv .2) (omega arith)
 
 add-k : tie.Need-add-k Inv-loop μ-loop
 add-k c = omega arith
@@ -60,8 +60,8 @@ loop-again c =
     let f : SFits w32 (w .code) = record { sfits = c .before .before .before .struct-told .given .1 .0 .1 } in
     let p = rw (toZ-ofZ f) at (c .before .before .waking .ensures) in
     let len : length (a .t4) ≡ 8 = search needs in
-    let e : 16 * (l .k + 1) ≡ 16 * l .k + 16 = omega arith in
-    (omega arith, omega arith, rw (e, wakings-more (a .t4) (l .k) noWaking (omega arith)) (also 16 (l .inv .2) (p .put) (p .short)))
+    let e : wakingBytes * (l .k + 1) ≡ wakingBytes * l .k + wakingBytes = omega arith in
+    (omega arith, omega arith, rw (e, wakings-more (a .t4) (l .k) noWaking (omega arith)) (also wakingBytes (l .inv .2) (p .put) (p .short)))
 
 same-length-2 : tie.Need-same-length-2 Inv-loop μ-loop
 same-length-2 c = put-length (c .before .loop .inv .2 .put)

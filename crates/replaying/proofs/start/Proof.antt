@@ -1,35 +1,60 @@
 -- `replaying::start` meets its contract.
-use Prim.Native.Nat.{_≤_}
+use Prim.Native.Nat.{ℕ, _≤_}
 use mathlib.Core.Path.{_≡_, sym, _∙_}
+use mathlib.Core.Logic.{⊎-elim}
+use mathlib.Core.List.{List}
 use native.Mathlib.Omega.{arith}
-use denote.Ref.{now}
+use lib.ListN.{length}
 use borrow.Author.Needs.{needs}
+use Rattle.model.specs.declared.Host.{Host}
+use Rattle.model.specs.State.{freshState}
+use Rattle.model.specs.Layout.{hostOf}
+use Rattle.runfile.specs.Table.{tableEnd}
 use Rattle.runfile.specs.File.{codeOfFile}
 use Rattle.runfile.proofs.Walk.{is-good}
+use Rattle.lines.proofs.Writing.{line-fits}
+use Rattle.replaying.specs.Replay.{wrote, begun}
+use Rattle.replaying.proofs.Turns.{progress}
 use Rattle.replaying.proofs.Starts.{bad-begun, good-begun}
 use Rattle.replaying.proofs.start.Statement.{statement}
 use Rattle.replaying.proofs.start.Tie as tie
 
-good : (c : tie.Else1) → codeOfFile (now (c .before .before .before .before .args .file)) ≡ 0
-good c = sym (c .before .before .code .ensures) ∙ c .if1 .left
+abbrev file-of : tie.After-code → List ℕ
+file-of c = c .before .before .before .args .file .now
 
-short : (c : tie.After-head-line) → c .before .before .count .result ≤ 65535
-short c =
-    let g = is-good _ (good (c .before .before .before)) in
-    omega (arith, c .before .before .count .ensures, g .short, g .table)
+abbrev out-of : tie.After-code → List ℕ
+out-of c = c .before .before .before .args .out .now
+
+-- either line, and how many events it leaves
+few : (c : tie.Joined1) → c .if1 .left ≤ 65535
+few c =
+    ⊎-elim
+    (λ v.
+    let g = is-good (file-of (c .before)) (sym (c .before .code .ensures) ∙ v .0 .taken) in
+    omega (arith, v .7, v .1 .ensures, g .short, g .table))
+    (λ v. omega (arith, v .6))
+    (c .if1 .came)
+
+is : (c : tie.Joined1) {host : Host} → host ≡ hostOf freshState
+    → (wrote (progress host 0 (c .if1 .left) (tableEnd (c .if1 .left))) (c .if1 .written), c .if1 .out) ≡ begun (file-of (c .before)) (out-of (c .before))
+is c h =
+    ⊎-elim
+    (λ v. rw (v .6, v .7, v .8) (good-begun (file-of (c .before)) (out-of (c .before)) h (sym (c .before .code .ensures) ∙ v .0 .taken) (v .1 .ensures) (v .3 .ensures .0)))
+    (λ v. rw (v .5, v .6, v .7) (bad-begun (file-of (c .before)) (out-of (c .before)) h (c .before .code .ensures) (v .0 .left) (v .2 .ensures .0)))
+    (c .if1 .came)
+
+kept : (c : tie.Joined1) → length (c .if1 .out) ≡ length (out-of (c .before))
+kept c = ⊎-elim (λ v. rw (v .6) (v .3 .kept .0)) (λ v. rw (v .5) (v .2 .kept .0)) (c .if1 .came)
+
+fits : (c : tie.Joined1) → c .if1 .written ≤ length (out-of (c .before))
+fits c =
+    ⊎-elim
+    (λ v. rw (v .8) (line-fits (out-of (c .before)) _ 0 (v .3 .ensures .0) (v .3 .ensures .1) (omega arith)))
+    (λ v. rw (v .7) (line-fits (out-of (c .before)) _ 0 (v .2 .ensures .0) (v .2 .ensures .1) (omega arith)))
+    (c .if1 .came)
 
 code-requires : tie.Need-code-requires
 code-requires c κs = search needs
-
-fresh-requires : tie.Need-fresh-requires
-fresh-requires c κs = search needs
-
-bad-line-requires : tie.Need-bad-line-requires
-bad-line-requires c κs = search needs
-
-returns : tie.Need-returns
-returns c =
-    bad-begun (now (c .before .before .before .before .before .before .args .file)) (c .before .before .before .before .code .ensures) (c .before .before .if1 .taken) (c .before .before .before .fresh .ensures) (c .before .bad-line-arg .given .0 .1) (c .bad-line .kept .0) (c .bad-line .ensures)
 
 count-requires : tie.Need-count-requires
 count-requires c κs = search needs
@@ -37,26 +62,34 @@ count-requires c κs = search needs
 head-line-requires : tie.Need-head-line-requires
 head-line-requires c κs = search needs
 
-mul-t15 : tie.Need-mul-t15
-mul-t15 c = omega (arith, short c)
+bad-line-requires : tie.Need-bad-line-requires
+bad-line-requires c κs = search needs
 
-add-t16 : tie.Need-add-t16
-add-t16 c = omega (arith, short c)
+fresh-requires : tie.Need-fresh-requires
+fresh-requires c κs = search needs
 
-returns-2 : tie.Need-returns-2
-returns-2 c =
-    good-begun (now (c .before .before .before .before .before .before .before .args .file)) (good (c .before .before .before)) (c .before .before .before .before .fresh .ensures) (c .before .before .count .ensures) (c .before .head-line-arg .given .0 .1) (c .head-line .kept .0) (c .head-line .ensures)
+mul-t12 : tie.Need-mul-t12
+mul-t12 c = omega (arith, few (c .before .before))
+
+add-t13 : tie.Need-add-t13
+add-t13 c = omega (arith, few (c .before .before))
+
+same-length : tie.Need-same-length
+same-length c = kept (c .before .before)
+
+returns : tie.Need-returns
+returns c = let j = c .before .before in (is j (c .before .fresh .ensures), omega (arith, kept j, fits j))
 
 pub start-spec : {M : Type 1} → statement M
 start-spec =
     tie.close
     (tie.spec
     code-requires
-    fresh-requires
-    bad-line-requires
-    returns
     count-requires
     head-line-requires
-    mul-t15
-    add-t16
-    returns-2)
+    bad-line-requires
+    fresh-requires
+    mul-t12
+    add-t13
+    same-length
+    returns)
