@@ -1,7 +1,7 @@
 -- What the events that wake by no rule return, put together from what their calls leave.
 use Prim.Native.Nat.{ℕ, _+_, _*_, _%_, _<_}
 use native.Mathlib.Omega.{arith}
-use mathlib.Core.Path.{_≡_, _∙_}
+use mathlib.Core.Path.{_≡_, refl, ap, _∙_}
 use mathlib.Core.Bool.{true, false}
 use mathlib.Core.List.{List, [], _∷_}
 use lib.ListN.{length, take, set, getD}
@@ -20,14 +20,19 @@ use Rattle.model.specs.Events.{cleared, keep, isOf, endedWith, doCreate, doRemo
 use Rattle.model.specs.Layout.{Held, stateOf, queueOf, wakingsOf, stepOf}
 use Rattle.model.proofs.QueueLaws.{awake, notOf}
 use Rattle.model.proofs.LayoutLaws.{ended-awake, ended-at}
+use Rattle.service.specs.declared.Woken.{Woken}
 use Rattle.service.specs.Line.{positionOf, noted, Holds, Lined, Emptied}
+use Rattle.service.specs.Told.{stepWith, refusedWith}
 use Rattle.service.proofs.LineLaws.{asleep-of, found, noted-more}
 use Rattle.service.proofs.CheckLaws.{asleep-found}
 use Rattle.service.proofs.EventLaws.{held-line, held-arrays, step-refused}
+use Rattle.service.proofs.ToldLaws.{told-refused}
 
--- a step with these parts of the host
-abbrev pub stepWith : List Set → Table → Line → List ℕ → ℤ → ℕ → Wakings → Step
-stepWith sets t line arrays code value wakings =
+-- ---- create
+
+-- a step with a value
+abbrev stepTo : List Set → Table → Line → List ℕ → ℤ → ℕ → Wakings → Step
+stepTo sets t line arrays code value wakings =
     record {
       host = record { sets = sets; values = t .values; lasts = t .lasts; adjustments = t .adjustments; line = line; arrays = arrays };
       code = code;
@@ -36,10 +41,8 @@ stepWith sets t line arrays code value wakings =
       wakings = wakings;
     }
 
--- ---- create
-
 module _ (h : Host) (k : Held h) (count read alter : ℕ) {code : ℕ} (e : code ≡ checkCreate (stateOf h) count) where
-  pub create-refused : (code ≡ 0 → ⊥) → stepWith (h .sets) (stateOf h .table) (h .line) (h .arrays) (pos code) 0 (wakingsOf []) ≡ stepOf (doCreate (stateOf h) count read alter)
+  pub create-refused : (code ≡ 0 → ⊥) → stepTo (h .sets) (stateOf h .table) (h .line) (h .arrays) (pos code) 0 (wakingsOf []) ≡ stepOf (doCreate (stateOf h) count read alter)
   unfolding doCreate
   create-refused n = rw (← e) (step-refused h k code _ n)
 
@@ -47,24 +50,24 @@ module _ (h : Host) (k : Held h) (count read alter : ℕ) {code : ℕ} (e : code
       → sets ≡ set (h .sets) slot (record { generation = getD (h .sets) slot noSet .generation; count = count; read = read; alter = alter })
       → t ≡ cleared (stateOf h .table) slot
       → value ≡ slot + slots * getD (h .sets) slot noSet .generation
-      → stepWith sets t (h .line) (h .arrays) (pos code) value (wakingsOf []) ≡ stepOf (doCreate (stateOf h) count read alter)
+      → stepTo sets t (h .line) (h .arrays) (pos code) value (wakingsOf []) ≡ stepOf (doCreate (stateOf h) count read alter)
   unfolding doCreate identifierOf
   created z es ek et ev = rw (← e, z, ek, et, ev, es, ← held-line h k, ← held-arrays h k)
 
 -- ---- remove
 
 module _ (h : Host) (k : Held h) (i : ℤ) {code : ℕ} (e : code ≡ checkRemove (stateOf h) i) where
-  pub remove-refused : (code ≡ 0 → ⊥) → stepWith (h .sets) (stateOf h .table) (h .line) (h .arrays) (pos code) 0 (wakingsOf []) ≡ stepOf (doRemove (stateOf h) i)
+  pub remove-refused : (code ≡ 0 → ⊥) → stepWith (h .sets) (h .values) (h .lasts) (h .adjustments) (h .arrays) (refusedWith code (h .line)) ≡ stepOf (doRemove (stateOf h) i)
   unfolding doRemove
-  remove-refused n = rw (← e) (step-refused h k code _ n)
+  remove-refused n = told-refused h k _ e n refl
 
-  pub removed : {slot : ℕ} {sets : List Set} {t : Table} {line : Line} {arrays : List ℕ} {wakings : Wakings} → code ≡ 0 → slot ≡ slotOf i
+  pub removed : {slot : ℕ} {sets : List Set} {t : Table} {arrays : List ℕ} {w : Woken} → code ≡ 0 → slot ≡ slotOf i
       → sets ≡ set (h .sets) slot (freeSet ((getD (h .sets) slot noSet .generation + 1) % 65536))
       → t ≡ cleared (stateOf h .table) slot
-      → Emptied slot (stateOf h .queue) line arrays wakings
-      → stepWith sets t line arrays (pos code) 0 wakings ≡ stepOf (doRemove (stateOf h) i)
+      → Emptied slot (stateOf h .queue) arrays w
+      → stepWith sets (t .values) (t .lasts) (t .adjustments) arrays (record { code = pos code; woken = w }) ≡ stepOf (doRemove (stateOf h) i)
   unfolding doRemove
-  removed z es ek et m = rw (← e, z, ek, et, m .rest .places, m .rest .bytes, m .told, es)
+  removed z es ek et m = rw (← e, z, ek, et, m .rest .places, m .rest .bytes, m .looks, m .told, es)
 
 -- ---- signal
 
@@ -85,11 +88,13 @@ module _ {line : Line} {arrays : List ℕ} (l : Lined line arrays) (p : ℕ) (co
   told-awake t = rw (ended-awake p code sleepers (awake p sleepers t))
 
 module _ (h : Host) (k : Held h) (p : ℕ) {code : ℕ} (e : code ≡ checkProcess p) where
-  pub signal-refused : (code ≡ 0 → ⊥) → stepWith (h .sets) (stateOf h .table) (h .line) (h .arrays) (pos code) 0 (wakingsOf []) ≡ stepOf (doSignal (stateOf h) p)
+  pub signal-refused : (code ≡ 0 → ⊥) → stepWith (h .sets) (h .values) (h .lasts) (h .adjustments) (h .arrays) (refusedWith code (h .line)) ≡ stepOf (doSignal (stateOf h) p)
   unfolding doSignal
-  signal-refused n = rw (← e) (step-refused h k code _ n)
+  signal-refused n = told-refused h k _ e n refl
 
-  pub signalled : {line : Line} {arrays : List ℕ} {wakings : Wakings} → code ≡ 0 → Holds line arrays (keep (notOf p) (stateOf h .queue)) → wakings ≡ wakingsOf (endedWith (pos 4) (isOf p) (stateOf h .queue))
-      → stepWith (h .sets) (stateOf h .table) line arrays (pos code) 0 wakings ≡ stepOf (doSignal (stateOf h) p)
+  pub signalled : {arrays : List ℕ} {w : Woken} → code ≡ 0 → Holds (w .line) arrays (keep (notOf p) (stateOf h .queue))
+      → w ≡ record { line = w .line; looks = 0; wakings = wakingsOf (endedWith (pos 4) (isOf p) (stateOf h .queue)) }
+      → stepWith (h .sets) (h .values) (h .lasts) (h .adjustments) arrays (record { code = pos code; woken = w }) ≡ stepOf (doSignal (stateOf h) p)
   unfolding doSignal
-  signalled z m ew = rw (← e, z, m .places, m .bytes, ew)
+  signalled {arrays} {w} z m ew =
+      ap (λ (x : Woken). stepWith (h .sets) (h .values) (h .lasts) (h .adjustments) arrays (record { code = pos code; woken = x })) ew ∙ rw (← e, z, m .places, m .bytes)

@@ -68,14 +68,14 @@ module _ {slot : ℕ} {q : List Sleeper} {line : Line} {arrays : List ℕ} {waki
       record { queue = q; ended = []; holds = h; fits = f; woken = e; within = omega arith; room = omega (arith, f .few); kept = refl; told = refl }
 
   module _ {i : ℕ} (v : Removing slot q line arrays wakings i) where
-    pub removing-all : line .asleep ≤ i → Emptied slot q line arrays wakings
+    pub removing-all : line .asleep ≤ i → Emptied slot q arrays (record { line = line; looks = 0; wakings = wakings })
     unfolding keep endedWith
     removing-all l =
         let g : length (v .queue) ≤ i = omega (arith, asleep-of (v .holds) (v .fits)) in
         let none-left : drop i (v .queue) ≡ [] = drop-of-length-le (v .queue) g in
         let k : v .queue ≡ keep (notMine slot) q = sym (append-nil (v .queue)) ∙ (rw (none-left, take-all i (v .queue) g) at (v .kept)) in
         let t : v .ended ≡ endedWith (pos 43) (mine slot) q = sym (append-nil (v .ended)) ∙ (rw none-left at (v .told)) in
-        record { rest = rw k at (v .holds); told = v .woken ∙ ap wakingsOf t }
+        record { rest = rw k at (v .holds); looks = refl; told = v .woken ∙ ap wakingsOf t }
 
     module _ (l : i < line .asleep) where
       here : i < length (v .queue)

@@ -13,6 +13,7 @@ use Rattle.model.specs.declared.Copies.{Copies}
 use Rattle.model.specs.declared.Engine.{Engine}
 use Rattle.model.specs.declared.Host.{Host}
 use Rattle.model.specs.declared.Judged.{Judged}
+use Rattle.model.specs.declared.Line.{Line}
 use Rattle.model.specs.declared.Outcome.{Outcome}
 use Rattle.model.specs.declared.Outcome.the-variants.{Done, Sleep, Again, Range}
 use Rattle.model.specs.declared.Place.{Place}
@@ -37,11 +38,29 @@ use Rattle.service.specs.declared.Told.{Told}
 use Rattle.service.specs.declared.Woken.{Woken}
 use Rattle.service.specs.Table.{IsProcess, Numbered}
 use Rattle.service.specs.Line.{Holds, joined, stored}
-use Rattle.service.specs.Parts.{Ready, parts, left, treated}
-use Rattle.service.specs.Told.{stepWith}
+use Rattle.service.specs.Parts.{Ready, lookAs, parts, partsWith, left, treated, completed}
+use Rattle.service.specs.Told.{stepWith, unwokenAt, refusedWith}
 use Rattle.service.proofs.LineLaws.{joins}
 use Rattle.service.proofs.EventLaws.{held-invariant, held-lined, held-asleep, goes-on}
 use Rattle.service.proofs.ToldLaws.{told-refused, told-woken, poised-ready, poised-treated}
+
+-- ---- an array that is done: what is lent holds the table that it leaves
+
+pub applied-parts : {values lasts arrays : List ℕ} {adjustments : List ℤ} {line : Line} {t : Table} → tableOf values lasts adjustments ≡ t
+    → parts values lasts adjustments arrays (unwokenAt line) ≡ partsWith t arrays line
+applied-parts {arrays = arrays} {line = line} e = ap (λ (t : Table). partsWith t arrays line) e
+
+pub completes : (engine : Engine) (t : Table) (s : Sleeper) (copies : Copies) (arrays : List ℕ) (line : Line) {values lasts before after : List ℕ} {adjustments : List ℤ} {touched : ℕ}
+    → tableOf values lasts adjustments ≡ applied t s copies → before ≡ slice (row (s .slot)) (row (s .slot) + semaphores) (t .values)
+    → after ≡ slice (row (s .slot)) (row (s .slot) + semaphores) values → touched ≡ differing 0 0 before after
+    → treated engine (s .slot) touched (parts values lasts adjustments arrays (unwokenAt line)) 0 ≡ completed engine t s copies arrays line
+unfolding valuesOf
+completes engine t s copies arrays line e eb ea em =
+    let v = ea ∙ ap (λ (x : Table). slice (row (s .slot)) (row (s .slot) + semaphores) (x .values)) e in
+    let m = em ∙ ap₂ (differing 0 0) eb v in
+    ap₂ (λ (n : ℕ) (x : Table). treated engine (s .slot) n (partsWith x arrays line) 0) m e
+
+-- ---- operate
 
 module _ (h : Host) (k : Held h) (p : ℕ) (i : ℤ) (bytes : List ℕ) (z : checkOperate (stateOf h) p i bytes ≡ 0) where
   abbrev caller : Sleeper
@@ -67,12 +86,11 @@ module _ (h : Host) (k : Held h) (p : ℕ) (i : ℤ) (bytes : List ℕ) (z : che
       (distinct-snoc (stateOf h .queue) (call p i bytes) (held-invariant h k .distinct) (operable .others)) in
       omega (arith, held-asleep h k, few, length-append (stateOf h .queue) (call p i bytes ∷ []))
 
-  -- the judging of the copies is a look at the call
-  pub call-judged : {slot : ℕ} {j : Judged} {values : List ℕ} {adjustments : List ℤ} → slot ≡ slotOf i → values ≡ slice (row slot) (row slot + semaphores) (h .values)
-      → adjustments ≡ slice (undoRow p slot) (undoRow p slot + semaphores) (h .adjustments) → j ≡ judge (record { values = values; adjustments = adjustments }) (operationsOf bytes)
+  -- the judging is a look at the call
+  pub call-judged : {slot : ℕ} {j : Judged} → slot ≡ slotOf i → j ≡ lookAs (h .values) (h .adjustments) (record { process = p; slot = slot; array = bytes })
       → j ≡ look (stateOf h .table) (call p i bytes)
   unfolding look valuesOf adjustmentsOf
-  call-judged es ev ea ej = ej ∙ rw (ev, ea, es)
+  call-judged es ej = ej ∙ rw es
 
   module _ (engine : Engine) (j : Judged) (ej : j ≡ look (stateOf h .table) (call p i bytes)) where
     abbrev outcome-told : Outcome → Result
@@ -87,62 +105,61 @@ module _ (h : Host) (k : Held h) (p : ℕ) (i : ℤ) (bytes : List ℕ) (z : che
 
     -- ---- done
 
-    module _ {values lasts : List ℕ} {adjustments : List ℤ} (w : Woken) (el : w .line ≡ h .line) (ew : w .wakings ≡ wakingsOf [])
-        (et : tableOf values lasts adjustments ≡ applied (stateOf h .table) (call p i bytes) (j .copies)) where
-      good : Good (applied (stateOf h .table) (call p i bytes) (look (stateOf h .table) (call p i bytes) .copies))
-      good = applied-good (stateOf h .table) (call p i bytes) (held-invariant h k .good) call-fits _ (look-fine (stateOf h .table) (call p i bytes) (held-invariant h k .good) call-fits)
+    abbrev after : Table
+    after = applied (stateOf h .table) (call p i bytes) (look (stateOf h .table) (call p i bytes) .copies)
 
-      table : tableOf values lasts adjustments ≡ applied (stateOf h .table) (call p i bytes) (look (stateOf h .table) (call p i bytes) .copies)
-      table = et ∙ ap (λ (x : Judged). applied (stateOf h .table) (call p i bytes) (x .copies)) ej
+    good : Good after
+    good = applied-good (stateOf h .table) (call p i bytes) (held-invariant h k .good) call-fits _ (look-fine (stateOf h .table) (call p i bytes) (held-invariant h k .good) call-fits)
 
-      holds : Holds (w .line) (h .arrays) (stateOf h .queue)
-      holds = record { places = el ∙ held-lined h k .holds .places; bytes = held-lined h k .holds .bytes }
+    pub done-ready : {slot : ℕ} → slot ≡ slotOf i → Ready (partsWith (applied (stateOf h .table) (record { process = p; slot = slot; array = bytes }) (j .copies)) (h .arrays) (h .line))
+    done-ready es =
+        rw (es, ej) (poised-ready h k after (stateOf h .queue) good (held-invariant h k .fits) (held-invariant h k .distinct) refl (held-lined h k .holds))
 
-      pub done-ready : Ready (parts values lasts adjustments (h .arrays) w)
-      done-ready = poised-ready h k _ (stateOf h .queue) good (held-invariant h k .fits) (held-invariant h k .distinct) w table holds ew
-
-      pub done-told : (told : Told) {values′ lasts′ arrays′ before after : List ℕ} {adjustments′ : List ℤ} {slot touched : ℕ} → j .outcome ≡ Done → slot ≡ slotOf i
-          → before ≡ slice (row slot) (row slot + semaphores) (h .values) → after ≡ slice (row slot) (row slot + semaphores) values → touched ≡ differing 0 0 before after → w .looks ≡ 0 → told .code ≡ pos 0
-          → left values′ lasts′ adjustments′ arrays′ (told .woken) ≡ treated engine slot touched (parts values lasts adjustments (h .arrays) w) (w .looks)
-          → stepWith (h .sets) values′ lasts′ adjustments′ arrays′ told ≡ stepOf (doOperate (waker engine) (stateOf h) p i bytes)
-      unfolding operated valuesOf
-      done-told told {before = before} {after = after} {slot = slot} {touched = touched} eo es eb ea em eo′ c q =
-          let t : touched ≡ differing 0 0 (valuesOf (stateOf h .table) (slotOf i)) (valuesOf (applied (stateOf h .table) (call p i bytes) (look (stateOf h .table) (call p i bytes) .copies)) (slotOf i)) =
-          em ∙ ap₂ (differing 0 0) (eb ∙ ap (λ (x : ℕ). slice (row x) (row x + semaphores) (h .values)) es)
-          (ea ∙ ap (λ (x : ℕ). slice (row x) (row x + semaphores) values) es ∙ ap (λ (x : Table). slice (row (slotOf i)) (row (slotOf i) + semaphores) (x .values)) table) in
-          told-woken (stateOf h) _ told c (q ∙ rw (es, t, eo′) (poised-treated h k _ (stateOf h .queue) good (held-invariant h k .fits) (held-invariant h k .distinct) w table holds ew engine (slotOf i) _ 0))
-          ∙ does eo
+    pub done-told : (told : Told) {values′ lasts′ arrays′ : List ℕ} {adjustments′ : List ℤ} {slot : ℕ} → j .outcome ≡ Done → slot ≡ slotOf i → told .code ≡ codeOf (j .outcome)
+        → left values′ lasts′ adjustments′ arrays′ (told .woken) ≡ completed engine (stateOf h .table) (record { process = p; slot = slot; array = bytes }) (j .copies) (h .arrays) (h .line)
+        → stepWith (h .sets) values′ lasts′ adjustments′ arrays′ told ≡ stepOf (doOperate (waker engine) (stateOf h) p i bytes)
+    unfolding operated codeOf
+    done-told told eo es c q =
+        told-woken (stateOf h) _ told (c ∙ ap codeOf eo)
+        (q ∙ rw (es, ej) (poised-treated h k after (stateOf h .queue) good (held-invariant h k .fits) (held-invariant h k .distinct) refl (held-lined h k .holds) engine (slotOf i) _ 0))
+        ∙ does eo
 
     -- ---- asleep
 
-    pub sleep-told : (told : Told) {place : Place} {arrays′ : List ℕ} → j .outcome ≡ Sleep → place ≡ placeOf (call p i bytes) → told .code ≡ negsuc 0
-        → told .woken .line ≡ joined (h .line) place → told .woken .looks ≡ 0 → told .woken .wakings ≡ wakingsOf [] → arrays′ ≡ stored (h .arrays) p bytes
+    pub sleep-told : (told : Told) {arrays′ : List ℕ} {slot : ℕ} → j .outcome ≡ Sleep → slot ≡ slotOf i → told .code ≡ codeOf (j .outcome)
+        → told .woken ≡ unwokenAt (joined (h .line) (placeOf (record { process = p; slot = slot; array = bytes }))) → arrays′ ≡ stored (h .arrays) p bytes
         → stepWith (h .sets) (h .values) (h .lasts) (h .adjustments) arrays′ told ≡ stepOf (doOperate (waker engine) (stateOf h) p i bytes)
     unfolding operated codeOf
-    sleep-told told {place} {arrays′} eo ep ec el elo ew ea =
+    sleep-told told {arrays′} {slot} eo es ec ew ea =
         let o : Holds (joined (h .line) (placeOf (call p i bytes))) (stored (h .arrays) p bytes) (stateOf h .queue ++ call p i bytes ∷ []) =
         joins (held-lined h k .holds) (held-lined h k .fits) (call p i bytes) (operable .others) (record { process = call-fits .process; last = call-fits .last; short = call-fits .short }) call-room in
-        let l : told .woken .line ≡ lineOf (stateOf h .queue ++ call p i bytes ∷ []) = el ∙ ap (joined (h .line)) ep ∙ o .places in
+        let w : told .woken ≡ unwokenAt (lineOf (stateOf h .queue ++ call p i bytes ∷ [])) = ew ∙ rw es (ap unwokenAt (o .places)) in
         let a : arrays′ ≡ arraysOf (stateOf h .queue ++ call p i bytes ∷ []) = ea ∙ o .bytes in
-        slept ec l elo ew a ∙ does eo
+        slept (ec ∙ ap codeOf eo) w a ∙ does eo
       where
-        slept : {told : Told} {arrays′ : List ℕ} → told .code ≡ negsuc 0 → told .woken .line ≡ lineOf (stateOf h .queue ++ call p i bytes ∷ []) → told .woken .looks ≡ 0 → told .woken .wakings ≡ wakingsOf []
+        slept : {told : Told} {arrays′ : List ℕ} → told .code ≡ negsuc 0 → told .woken ≡ unwokenAt (lineOf (stateOf h .queue ++ call p i bytes ∷ []))
             → arrays′ ≡ arraysOf (stateOf h .queue ++ call p i bytes ∷ []) → stepWith (h .sets) (h .values) (h .lasts) (h .adjustments) arrays′ told ≡ stepOf (outcome-told Sleep)
-        slept ec l elo ew a = cc
+        slept ec w a = cc
 
     -- ---- refused by judging
 
-    pub judged-told : (told : Told) → OneOf (2 ∷ 3 ∷ []) (tagOf the-type (j .outcome)) → told .code ≡ codeOf (j .outcome) → told .woken .line ≡ h .line → told .woken .looks ≡ 0
-        → told .woken .wakings ≡ wakingsOf [] → stepWith (h .sets) (h .values) (h .lasts) (h .adjustments) (h .arrays) told ≡ stepOf (doOperate (waker engine) (stateOf h) p i bytes)
+    pub judged-told : (told : Told) → OneOf (2 ∷ 3 ∷ []) (tagOf the-type (j .outcome)) → told .code ≡ codeOf (j .outcome) → told .woken ≡ unwokenAt (h .line)
+        → stepWith (h .sets) (h .values) (h .lasts) (h .adjustments) (h .arrays) told ≡ stepOf (doOperate (waker engine) (stateOf h) p i bytes)
     unfolding operated codeOf
-    judged-told told t ec el elo ew = go (j .outcome) refl t ec
+    judged-told told t ec ew = go (j .outcome) refl t ec
       where
         no : (n : ℕ) → suc n ≡ 0 → ⊥
         no n e = omega arith
+
+        telling : ℤ → Woken → Told
+        telling c w = record { code = c; woken = w }
+
+        same : {code : ℕ} → told .code ≡ pos code → told ≡ refusedWith code (h .line)
+        same c = ap₂ telling c ew
 
         go : (o : Outcome) → j .outcome ≡ o → OneOf (2 ∷ 3 ∷ []) (tagOf the-type o) → told .code ≡ codeOf o
             → stepWith (h .sets) (h .values) (h .lasts) (h .adjustments) (h .arrays) told ≡ stepOf (doOperate (waker engine) (stateOf h) p i bytes)
         go Done e t c = absurd (miss (2 ∷ 3 ∷ []) 0 tt t)
         go Sleep e t c = absurd (miss (2 ∷ 3 ∷ []) 1 tt t)
-        go Again e t c = told-refused h k {code = 11} {code′ = 11} (outcome-told Again) told refl (no 10) c el elo ew ∙ does e
-        go Range e t c = told-refused h k {code = 34} {code′ = 34} (outcome-told Range) told refl (no 33) c el elo ew ∙ does e
+        go Again e t c = told-refused h k {code = 11} {code′ = 11} (outcome-told Again) refl (no 10) (same c) ∙ does e
+        go Range e t c = told-refused h k {code = 34} {code′ = 34} (outcome-told Range) refl (no 33) (same c) ∙ does e

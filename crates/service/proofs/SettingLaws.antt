@@ -4,7 +4,7 @@ use native.Mathlib.Omega.{arith}
 use mathlib.Core.Path.{_≡_, refl, sym, _∙_, ap}
 use native.Mathlib.Nat.{zero-lt-suc}
 use borrow.Author.Tests.{not-false}
-use mathlib.Core.List.{List, []}
+use mathlib.Core.List.{List}
 use mathlib.Core.Bool.{not}
 use lib.Dec.{eqb}
 use lib.IntN.{ℤ, pos, natAbs}
@@ -15,16 +15,14 @@ use Rattle.model.specs.State.{State, Table}
 use Rattle.model.specs.Checks.{check, inRange, slotOf, checkSetValue, checkNumber}
 use Rattle.model.specs.Waking.{waker}
 use Rattle.model.specs.Events.{assigned, doSetValue, wokenAs, world}
-use Rattle.model.specs.Layout.{Held, stateOf, stepOf, tableOf, wakingsOf}
+use Rattle.model.specs.Layout.{Held, stateOf, stepOf, tableOf}
 use Rattle.model.proofs.CheckLaws.{passes, Assignable, setValue-passes}
 use Rattle.model.proofs.Invariant.{Good}
 use Rattle.model.proofs.TableLaws.{assigned-good}
 use Rattle.judging.specs.Value.{valueOf}
 use Rattle.service.specs.declared.Told.{Told}
-use Rattle.service.specs.declared.Woken.{Woken}
-use Rattle.service.specs.Line.{Holds}
 use Rattle.service.specs.Parts.{Ready, parts, left, treated}
-use Rattle.service.specs.Told.{stepWith}
+use Rattle.service.specs.Told.{stepWith, unwokenAt}
 use Rattle.service.proofs.EventLaws.{held-invariant, held-lined, held-counts, goes-on}
 use Rattle.service.proofs.ToldLaws.{told-woken, poised-ready, poised-treated}
 
@@ -44,21 +42,17 @@ module _ (h : Host) (k : Held h) (i : ℤ) (n : ℕ) (v : ℤ) (z : checkSetValu
   set-number = omega (arith, set-passed .numbered .number, held-counts h k (slotOf i))
 
   -- the parts after the value was assigned
-  module _ {values : List ℕ} {adjustments : List ℤ} (w : Woken) (el : w .line ≡ h .line) (ew : w .wakings ≡ wakingsOf [])
-      (et : tableOf values (h .lasts) adjustments ≡ assigned (tableOf (h .values) (h .lasts) (h .adjustments)) (slotOf i) n (natAbs v)) where
+  module _ {values : List ℕ} {adjustments : List ℤ} (et : tableOf values (h .lasts) adjustments ≡ assigned (tableOf (h .values) (h .lasts) (h .adjustments)) (slotOf i) n (natAbs v)) where
     good : Good (assigned (tableOf (h .values) (h .lasts) (h .adjustments)) (slotOf i) n (natAbs v))
     good = assigned-good _ (slotOf i) n (natAbs v) (held-invariant h k .good) (set-passed .value)
 
-    holds : Holds (w .line) (h .arrays) (stateOf h .queue)
-    holds = record { places = el ∙ held-lined h k .holds .places; bytes = held-lined h k .holds .bytes }
+    pub set-ready : Ready (parts values (h .lasts) adjustments (h .arrays) (unwokenAt (h .line)))
+    set-ready = poised-ready h k _ (stateOf h .queue) good (held-invariant h k .fits) (held-invariant h k .distinct) et (held-lined h k .holds)
 
-    pub set-ready : Ready (parts values (h .lasts) adjustments (h .arrays) w)
-    set-ready = poised-ready h k _ (stateOf h .queue) good (held-invariant h k .fits) (held-invariant h k .distinct) w et holds ew
-
-    pub set-told : (engine : Engine) (told : Told) {values′ lasts′ arrays′ : List ℕ} {adjustments′ : List ℤ} {slot touched : ℕ} → slot ≡ slotOf i → touched ≡ 2 ^ n → w .looks ≡ 0 → told .code ≡ pos 0
-        → left values′ lasts′ adjustments′ arrays′ (told .woken) ≡ treated engine slot touched (parts values (h .lasts) adjustments (h .arrays) w) (w .looks)
+    pub set-told : (engine : Engine) (told : Told) {values′ lasts′ arrays′ : List ℕ} {adjustments′ : List ℤ} {slot touched : ℕ} → slot ≡ slotOf i → touched ≡ 2 ^ n → told .code ≡ pos 0
+        → left values′ lasts′ adjustments′ arrays′ (told .woken) ≡ treated engine slot touched (parts values (h .lasts) adjustments (h .arrays) (unwokenAt (h .line))) 0
         → stepWith (h .sets) values′ lasts′ adjustments′ arrays′ told ≡ stepOf (doSetValue (waker engine) (stateOf h) i n v)
     unfolding doSetValue
-    set-told engine told es em el c q =
-        told-woken (stateOf h) _ told c (q ∙ rw (es, em, el) (poised-treated h k _ (stateOf h .queue) good (held-invariant h k .fits) (held-invariant h k .distinct) w et holds ew engine (slotOf i) (2 ^ n) 0))
+    set-told engine told es em c q =
+        told-woken (stateOf h) _ told c (q ∙ rw (es, em) (poised-treated h k _ (stateOf h .queue) good (held-invariant h k .fits) (held-invariant h k .distinct) et (held-lined h k .holds) engine (slotOf i) (2 ^ n) 0))
         ∙ ap stepOf (goes-on (stateOf h) _ z)

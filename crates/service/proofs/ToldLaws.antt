@@ -7,6 +7,7 @@ use lib.ListN.{length}
 use lib.IntN.{ℤ, pos}
 use Rattle.model.specs.declared.Engine.{Engine}
 use Rattle.model.specs.declared.Host.{Host}
+use Rattle.model.specs.declared.Line.{Line}
 use Rattle.model.specs.declared.Set.{Set}
 use Rattle.model.specs.declared.Step.{Step}
 use Rattle.model.specs.Limits.{semaphores, processes}
@@ -22,17 +23,15 @@ use Rattle.service.specs.declared.Told.{Told}
 use Rattle.service.specs.declared.Woken.{Woken}
 use Rattle.service.specs.Line.{Holds}
 use Rattle.service.specs.Parts.{Parts, Left, parts, partsOf, worldOf, left, leftOf, Ready, treated, treatedFrom}
-use Rattle.service.specs.Told.{hostWith, stepWith}
+use Rattle.service.specs.Told.{stepWith, unwokenAt, refusedWith}
 use Rattle.service.proofs.PartsLaws.{world-back, parts-ready}
-use Rattle.service.proofs.EventLaws.{held-counts, refusedStep, step-refused}
+use Rattle.service.proofs.EventLaws.{held-counts, step-refused}
 
 -- a refusal leaves the host
-pub told-refused : (h : Host) → Held h → {code code′ : ℕ} (does : Result) (told : Told) → code ≡ code′ → (code ≡ 0 → ⊥) → told .code ≡ pos code → told .woken .line ≡ h .line → told .woken .looks ≡ 0
-    → told .woken .wakings ≡ wakingsOf [] → stepWith (h .sets) (h .values) (h .lasts) (h .adjustments) (h .arrays) told ≡ stepOf (checked code′ (stateOf h) does)
-told-refused h k {code} does told e n ec el eo ew = same ∙ step-refused h k code does n ∙ ap (λ (x : ℕ). stepOf (checked x (stateOf h) does)) e
-  where
-    same : stepWith (h .sets) (h .values) (h .lasts) (h .adjustments) (h .arrays) told ≡ refusedStep h code
-    same = cc
+pub told-refused : (h : Host) → Held h → {code code′ : ℕ} (does : Result) {told : Told} → code ≡ code′ → (code ≡ 0 → ⊥) → told ≡ refusedWith code (h .line)
+    → stepWith (h .sets) (h .values) (h .lasts) (h .adjustments) (h .arrays) told ≡ stepOf (checked code′ (stateOf h) does)
+told-refused h k {code} does e n w =
+    ap (stepWith (h .sets) (h .values) (h .lasts) (h .adjustments) (h .arrays)) w ∙ step-refused h k code does n ∙ ap (λ (x : ℕ). stepOf (checked x (stateOf h) does)) e
 
 -- what a waking leaves is the state after the event
 pub told-woken : (s : State) (e : Ended) {values lasts arrays : List ℕ} {adjustments : List ℤ} (told : Told) → told .code ≡ pos 0 → left values lasts adjustments arrays (told .woken) ≡ leftOf e
@@ -50,27 +49,30 @@ told-woken s e {values} {lasts} {arrays} {adjustments} told c q =
 
 -- a table and a queue as an event leaves them, in the parts that it hands to the waking
 module _ (h : Host) (k : Held h) (t : Table) (q : List Sleeper) (g : Good t) (f : All (Fits (h .sets)) q) (d : Distinct q)
-    {values lasts arrays : List ℕ} {adjustments : List ℤ} (w : Woken) (et : tableOf values lasts adjustments ≡ t) (o : Holds (w .line) arrays q) (e : w .wakings ≡ wakingsOf []) where
+    {values lasts arrays : List ℕ} {adjustments : List ℤ} {line : Line} (et : tableOf values lasts adjustments ≡ t) (o : Holds line arrays q) where
   calm : Calm (h .sets) (world t q)
   calm = let few : length q ≤ processes = queued q f d .few in record { good = g; fits = f; distinct = d; room = omega (arith, few) }
 
-  poised : parts values lasts adjustments arrays w ≡ partsOf (world t q)
+  abbrev ours : Parts
+  ours = parts values lasts adjustments arrays (unwokenAt line)
+
+  poised : ours ≡ partsOf (world t q)
   unfolding partsOf
   poised =
       let a : values ≡ t .values = ap (λ (x : Table). x .values) et in
       let b : lasts ≡ t .lasts = ap (λ (x : Table). x .lasts) et in
       let c : adjustments ≡ t .adjustments = ap (λ (x : Table). x .adjustments) et in
-      rw (a, b, c, o .places, o .bytes, e)
+      rw (a, b, c, o .places, o .bytes)
 
-  pub poised-ready : Ready (parts values lasts adjustments arrays w)
+  pub poised-ready : Ready ours
   poised-ready = rw poised (parts-ready (h .sets) (world t q) (held-counts h k) calm)
 
-  the-world : worldOf (parts values lasts adjustments arrays w) ≡ world t q
+  the-world : worldOf ours ≡ world t q
   the-world = ap worldOf poised ∙ world-back (h .sets) (world t q) calm
 
-  pub poised-treated : (engine : Engine) (slot touched l : ℕ) → treated engine slot touched (parts values lasts adjustments arrays w) l ≡ leftOf (waker engine slot touched (world t q) l)
+  pub poised-treated : (engine : Engine) (slot touched l : ℕ) → treated engine slot touched ours l ≡ leftOf (waker engine slot touched (world t q) l)
   poised-treated engine slot touched l = ap (λ (x : World). leftOf (waker engine slot touched x l)) the-world
 
   pub poised-all : (engine : Engine) (sets : List Set) (touched : List ℕ) (l : ℕ)
-      → treatedFrom engine sets 0 touched (parts values lasts adjustments arrays w) l ≡ leftOf (treatFrom (waker engine) sets 0 touched (record { world = world t q; looks = l }))
+      → treatedFrom engine sets 0 touched ours l ≡ leftOf (treatFrom (waker engine) sets 0 touched (record { world = world t q; looks = l }))
   poised-all engine sets touched l = ap (λ (x : World). leftOf (treatFrom (waker engine) sets 0 touched (record { world = x; looks = l }))) the-world

@@ -10,6 +10,7 @@ use lib.IntN.{ℤ, pos}
 use Rattle.model.specs.declared.Line.{Line}
 use Rattle.model.specs.declared.Place.{Place}
 use Rattle.model.specs.declared.Wakings.{Wakings}
+use Rattle.service.specs.declared.Woken.{Woken}
 use Rattle.model.specs.Limits.{processes, arrayBytes}
 use Rattle.model.specs.State.{Sleeper}
 use Rattle.model.specs.Marks.{mine}
@@ -66,6 +67,7 @@ abbrev pub notMine : ℕ → Sleeper → Bool
 notMine slot s = not (mine slot s)
 
 -- what is left of a queue once a set is removed, and who was woken
-pub record Emptied (slot : ℕ) (q : List Sleeper) (line : Line) (arrays : List ℕ) (wakings : Wakings) : Type 0 where
-  pub rest : Holds line arrays (keep (notMine slot) q)
-  pub told : wakings ≡ wakingsOf (endedWith (pos 43) (mine slot) q)
+pub record Emptied (slot : ℕ) (q : List Sleeper) (arrays : List ℕ) (w : Woken) : Type 0 where
+  pub rest : Holds (w .line) arrays (keep (notMine slot) q)
+  pub looks : w .looks ≡ 0
+  pub told : w .wakings ≡ wakingsOf (endedWith (pos 43) (mine slot) q)

@@ -11,13 +11,14 @@ use Rattle.model.specs.declared.Set.{Set}
 use Rattle.model.specs.declared.Engine.{Engine}
 use Rattle.model.specs.declared.Place.{Place}
 use Rattle.model.specs.declared.Line.{Line}
+use Rattle.model.specs.declared.Copies.{Copies}
 use Rattle.model.specs.declared.Judged.{Judged}
 use Rattle.model.specs.declared.Wakings.{Wakings}
 use Rattle.model.specs.Limits.{slots, semaphores, processes, arrayBytes}
 use Rattle.model.specs.State.{Table, Sleeper}
 use Rattle.model.specs.Operation.{hasBit}
-use Rattle.model.specs.Look.{look}
-use Rattle.model.specs.Marks.{bitOf}
+use Rattle.model.specs.Look.{look, applied, valuesOf}
+use Rattle.model.specs.Marks.{bitOf, differing}
 use Rattle.model.specs.Waking.{World, Ended, finish, plain, quick, waker}
 use Rattle.model.specs.Events.{treatFrom}
 use Rattle.model.specs.Layout.{noPlace, lineOf, arraysOf, wakingsOf, tableOf, queueOf, sleeperAt}
@@ -38,6 +39,11 @@ pub record Parts : Type 0 where
 abbrev pub parts : List ℕ → List ℕ → List ℤ → List ℕ → Woken → Parts
 parts values lasts adjustments arrays w =
     record { values = values; lasts = lasts; adjustments = adjustments; arrays = arrays; line = w .line; wakings = w .wakings }
+
+-- a table, with a line that nobody was woken from
+abbrev pub partsWith : Table → List ℕ → Line → Parts
+partsWith t arrays line =
+    record { values = t .values; lasts = t .lasts; adjustments = t .adjustments; arrays = arrays; line = line; wakings = wakingsOf [] }
 
 -- how parts hold a world
 unfoldable pub partsOf : World → Parts
@@ -89,9 +95,12 @@ pub record Placed (arrays : List ℕ) (p : Place) : Type 0 where
   pub size : p .size ≤ arrayBytes
   pub numbered : Numbered (sleeperAt arrays p .array)
 
--- a look at the sleeper of a place; last processes play no part in it
+-- a look at a sleeper, or at the one of a place; last processes play no part in it
+abbrev pub lookAs : List ℕ → List ℤ → Sleeper → Judged
+lookAs values adjustments s = look (tableOf values [] adjustments) s
+
 abbrev pub lookIn : List ℕ → List ℤ → List ℕ → Place → Judged
-lookIn values adjustments arrays p = look (tableOf values [] adjustments) (sleeperAt arrays p)
+lookIn values adjustments arrays p = lookAs values adjustments (sleeperAt arrays p)
 
 -- what finishing the sleeper at a position asks: it is there, and was judged so
 pub record Finishable (p : Parts) (at : ℕ) (judged : Judged) : Type 0 where
@@ -124,6 +133,12 @@ pub record Peopled (line : Line) : Type 0 where
 -- what an engine leaves of parts once it has treated a slot with these touched semaphores, or the live slots from one on
 abbrev pub treated : Engine → ℕ → ℕ → Parts → ℕ → Left
 treated engine slot touched p looks = leftOf (waker engine slot touched (worldOf p) looks)
+
+-- .. and once an array is done: the copies become the state, and its set is treated with the semaphores whose values now differ
+abbrev pub completed : Engine → Table → Sleeper → Copies → List ℕ → Line → Left
+completed engine t s copies arrays line =
+    let after = applied t s copies in
+    treated engine (s .slot) (differing 0 0 (valuesOf t (s .slot)) (valuesOf after (s .slot))) (partsWith after arrays line) 0
 
 abbrev pub treatedFrom : Engine → List Set → ℕ → List ℕ → Parts → ℕ → Left
 treatedFrom engine sets slot touched p looks = leftOf (treatFrom (waker engine) sets slot touched (record { world = worldOf p; looks = looks }))

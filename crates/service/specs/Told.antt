@@ -1,12 +1,22 @@
 -- How an event's parts make up the host it was handed, and the step it answers.
 use Prim.Native.Nat.{ℕ}
-use mathlib.Core.List.{List}
-use lib.IntN.{ℤ}
+use mathlib.Core.List.{List, []}
+use lib.IntN.{ℤ, pos}
 use Rattle.model.specs.declared.Set.{Set}
 use Rattle.model.specs.declared.Line.{Line}
 use Rattle.model.specs.declared.Host.{Host}
 use Rattle.model.specs.declared.Step.{Step}
+use Rattle.model.specs.Layout.{wakingsOf}
+use Rattle.service.specs.declared.Woken.{Woken}
 use Rattle.service.specs.declared.Told.{Told}
+
+-- nobody was looked at or woken
+abbrev pub unwokenAt : Line → Woken
+unwokenAt line = record { line = line; looks = 0; wakings = wakingsOf [] }
+
+-- the code of the check that applies, and the line as it was
+abbrev pub refusedWith : ℕ → Line → Told
+refusedWith code line = record { code = pos code; woken = unwokenAt line }
 
 abbrev pub hostWith : List Set → List ℕ → List ℕ → List ℤ → List ℕ → Line → Host
 hostWith sets values lasts adjustments arrays line =

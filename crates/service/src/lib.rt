@@ -10,6 +10,7 @@
 mod checks;
 mod events;
 mod line;
+mod quiet;
 mod table;
 mod waking;
 

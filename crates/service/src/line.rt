@@ -5,10 +5,12 @@ ghost use lib.ListN.{length, take};
 ghost use mathlib.Core.List.{[]};
 ghost use Rattle.model.specs.Limits.{processes, arrayBytes};
 ghost use Rattle.model.specs.Events.{keep};
-ghost use Rattle.model.specs.Layout.{queueOf, wakingsOf};
+ghost use Rattle.model.specs.Layout.{placeOf, queueOf, wakingsOf};
 ghost use Rattle.model.proofs.QueueLaws.{notOf};
-ghost use Rattle.service.specs.Table.{IsProcess};
+ghost use Rattle.service.specs.Table.{IsProcess, IsSlot, Numbered};
 ghost use Rattle.service.specs.Line.{takenOut, joined, noted, AllArrays, cleared, stored, positionOf, Holds, Lined, Emptied};
+use crate::Woken;
+use crate::table::names_of;
 use model::ARRAY_BYTES;
 use model::Line;
 use model::PROCESSES;
@@ -91,6 +93,27 @@ pub fn store_array(arrays: &mut [u8], process: u8, bytes: &[u8])
     }
 }
 
+// With a call behind the others: its array is stored, and its place has the mask of what it names.
+pub fn fall_asleep(line: Line, arrays: &mut [u8], process: u8, slot: usize, bytes: &[u8]) -> Line
+    requires { ⌜ AllArrays (now arrays) ⌝ }
+    requires { ⌜ line .asleep < processes ⌝ }
+    requires { ⌜ IsProcess process ⌝ }
+    requires { ⌜ IsSlot slot ⌝ }
+    requires { ⌜ Numbered (now bytes) ⌝ }
+    requires { ⌜ length (now bytes) ≤ arrayBytes ⌝ }
+    ensures { λ r. ⌜ r ≡ joined line (placeOf (record { process = process; slot = slot; array = now (bytes .entry) })) ⌝ }
+    ensures { λ _. ⌜ now (arrays .exit) ≡ stored (now (arrays .entry)) process (now (bytes .entry)) ⌝ }
+{
+    store_array(arrays, process, bytes);
+    let place = Place {
+        process: process,
+        slot: slot as u8,
+        size: bytes.len() as u8,
+        names: names_of(bytes),
+    };
+    join(line, place)
+}
+
 // The bytes of `process` are zero; the others stay.
 pub fn clear_array(arrays: &mut [u8], process: u8)
     requires { ⌜ AllArrays (now arrays) ⌝ }
@@ -147,16 +170,10 @@ pub fn no_wakings() -> Wakings
     }
 }
 
-// What a removal leaves: the line, and the wakings of those who slept at the set.
-pub struct Removed {
-    pub line: Line,
-    pub wakings: Wakings,
-}
-
 // Ends the sleepers of a slot with 43, oldest first, and takes them out.
-pub fn remove_set(line: Line, arrays: &mut [u8], slot: usize) -> Removed
+pub fn remove_set(line: Line, arrays: &mut [u8], slot: usize) -> Woken
     requires { ⌜ Lined line (now arrays) ⌝ }
-    ensures { λ r. ⌜ Emptied slot (queueOf line (now (arrays .entry))) (r .line) (now (arrays .exit)) (r .wakings) ⌝ }
+    ensures { λ r. ⌜ Emptied slot (queueOf line (now (arrays .entry))) (now (arrays .exit)) r ⌝ }
 {
     let mut left = line;
     let mut wakings = no_wakings();
@@ -171,8 +188,9 @@ pub fn remove_set(line: Line, arrays: &mut [u8], slot: usize) -> Removed
             i += 1;
         }
     }
-    Removed {
+    Woken {
         line: left,
+        looks: 0,
         wakings: wakings,
     }
 }

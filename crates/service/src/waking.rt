@@ -7,7 +7,7 @@ ghost use Rattle.model.specs.Look.{after};
 ghost use Rattle.model.specs.Marks.{bitOf};
 ghost use Rattle.model.specs.Layout.{tableOf, sleeperAt};
 ghost use Rattle.service.specs.Table.{IsSlot, IsProcess};
-ghost use Rattle.service.specs.Parts.{Placed, IsArrays, Ready, Finishable, parts, left, leftOf, worldOf, lookIn, finishedAt, plainly, quickly, treated, treatedFrom, markPlaces, Peopled, looksMax};
+ghost use Rattle.service.specs.Parts.{Placed, IsArrays, Ready, Finishable, parts, left, leftOf, worldOf, lookAs, lookIn, finishedAt, plainly, quickly, treated, treatedFrom, markPlaces, Peopled, looksMax};
 use crate::Woken;
 use crate::line::clear_array;
 use crate::line::note;
@@ -39,7 +39,26 @@ pub fn bit_of(process: u8) -> u8
     1u8 << (process - 1)
 }
 
-// A sleeper's array, judged on the present state.
+// An array of a process at a slot, judged on the present state.
+pub fn judge_at(
+    values: &[u16; ALL_SEMAPHORES],
+    adjustments: &[i16; ALL_ADJUSTMENTS],
+    process: u8,
+    slot: usize,
+    bytes: &[u8],
+) -> Judged
+    requires { ⌜ IsProcess process ⌝ }
+    requires { ⌜ IsSlot slot ⌝ }
+    ensures { λ r. ⌜ r ≡ lookAs (now (values .entry)) (now (adjustments .entry)) (record { process = process; slot = slot; array = now (bytes .entry) }) ⌝ }
+{
+    let copies = Copies {
+        values: values_of(values, slot),
+        adjustments: adjustments_of(adjustments, process, slot),
+    };
+    judge(copies, bytes)
+}
+
+// The same for a sleeper.
 pub fn look(
     values: &[u16; ALL_SEMAPHORES],
     adjustments: &[i16; ALL_ADJUSTMENTS],
@@ -51,14 +70,15 @@ pub fn look(
     ensures { λ r. ⌜ r ≡ lookIn (now (values .entry)) (now (adjustments .entry)) (now (arrays .entry)) place ⌝ }
 {
     let process = place.process;
-    let slot = place.slot as usize;
     let from = ARRAY_BYTES * ((process - 1) as usize);
     let to = from + (place.size as usize);
-    let copies = Copies {
-        values: values_of(values, slot),
-        adjustments: adjustments_of(adjustments, process, slot),
-    };
-    judge(copies, &arrays[from..to])
+    judge_at(
+        values,
+        adjustments,
+        process,
+        place.slot as usize,
+        &arrays[from..to],
+    )
 }
 
 // What the judging of a sleeper's array leaves of the table: it is applied if it is done.

@@ -5,15 +5,14 @@ ghost use Rattle.model.specs.Events.{doExit};
 ghost use Rattle.model.specs.Layout.{Held, stateOf, stepOf};
 ghost use Rattle.service.specs.Told.{hostWith, stepWith};
 use crate::Told;
-use crate::Woken;
 use crate::checks::check_process;
 use crate::events::step;
 use crate::line::leave;
-use crate::line::no_wakings;
+use crate::quiet::refused;
+use crate::quiet::unwoken;
 use crate::table::touched_by_exit;
 use crate::table::undo_all;
 use crate::waking::wake_all;
-use judging::answer;
 use model::ALL_ADJUSTMENTS;
 use model::ALL_SEMAPHORES;
 use model::Engine;
@@ -39,21 +38,10 @@ fn exit_on(
 {
     let check = check_process(process);
     if check != 0 {
-        return Told {
-            code: answer(check),
-            woken: Woken {
-                line: line,
-                looks: 0,
-                wakings: no_wakings(),
-            },
-        };
+        return refused(check, line);
     }
     let before = *values;
-    let start = Woken {
-        line: leave(line, &mut *arrays, process),
-        looks: 0,
-        wakings: no_wakings(),
-    };
+    let rest = leave(line, &mut *arrays, process);
     undo_all(&mut *values, &mut *adjustments, process);
     let touched = touched_by_exit(&before, &*values);
     let woken = wake_all(
@@ -64,7 +52,7 @@ fn exit_on(
         lasts,
         adjustments,
         arrays,
-        start,
+        unwoken(rest),
     );
     Told {
         code: 0,

@@ -3,23 +3,24 @@ ghost use mathlib.Core.Path.{_≡_};
 ghost use Rattle.model.specs.Waking.{waker};
 ghost use Rattle.model.specs.Events.{doOperate};
 ghost use Rattle.model.specs.Layout.{Held, stateOf, stepOf};
+ghost use Rattle.model.specs.Look.{applied};
+ghost use Rattle.model.specs.Layout.{tableOf};
+ghost use Rattle.service.specs.Table.{IsSlot, IsProcess, Numbered};
+ghost use Rattle.service.specs.Parts.{Ready, partsWith, left, completed};
 ghost use Rattle.service.specs.Told.{hostWith, stepWith};
 use crate::Told;
 use crate::Woken;
 use crate::checks::check_operate;
 use crate::events::step;
-use crate::line::join;
-use crate::line::no_wakings;
-use crate::line::store_array;
-use crate::table::adjustments_of;
+use crate::line::fall_asleep;
+use crate::quiet::refused;
+use crate::quiet::unwoken;
 use crate::table::apply;
 use crate::table::differing_mask;
-use crate::table::names_of;
 use crate::table::values_of;
+use crate::waking::judge_at;
 use crate::waking::wake;
-use judging::answer;
 use judging::code_of;
-use judging::judge;
 use judging::slot_of;
 use model::ALL_ADJUSTMENTS;
 use model::ALL_SEMAPHORES;
@@ -28,12 +29,53 @@ use model::Engine;
 use model::Host;
 use model::Line;
 use model::Outcome;
-use model::Place;
 use model::SETS;
 use model::Set;
 use model::Step;
 
-// The array is judged on a copy: done, it is applied and its set treated; else it sleeps, or is refused.
+// An array that is done: "the copy becomes the state", and its set is treated.
+fn complete(
+    engine: Engine,
+    values: &mut [u16; ALL_SEMAPHORES],
+    lasts: &mut [u8; ALL_SEMAPHORES],
+    adjustments: &mut [i16; ALL_ADJUSTMENTS],
+    arrays: &mut [u8],
+    line: Line,
+    process: u8,
+    slot: usize,
+    bytes: &[u8],
+    copies: Copies,
+) -> Woken
+    requires { ⌜ IsProcess process ⌝ }
+    requires { ⌜ IsSlot slot ⌝ }
+    requires { ⌜ Numbered (now bytes) ⌝ }
+    requires { ⌜ Ready (partsWith (applied (tableOf (now values) (now lasts) (now adjustments)) (record { process = process; slot = slot; array = now bytes }) copies) (now arrays) line) ⌝ }
+    ensures { λ r. ⌜ left (now (values .exit)) (now (lasts .exit)) (now (adjustments .exit)) (now (arrays .exit)) r ≡ completed engine (tableOf (now (values .entry)) (now (lasts .entry)) (now (adjustments .entry))) (record { process = process; slot = slot; array = now (bytes .entry) }) copies (now (arrays .entry)) line ⌝ }
+{
+    let before = values_of(&*values, slot);
+    apply(
+        &mut *values,
+        &mut *lasts,
+        &mut *adjustments,
+        process,
+        slot,
+        bytes,
+        copies,
+    );
+    let touched = differing_mask(before, values_of(&*values, slot));
+    wake(
+        engine,
+        slot,
+        touched,
+        values,
+        lasts,
+        adjustments,
+        arrays,
+        unwoken(line),
+    )
+}
+
+// The array is judged on a copy: done, it is completed; else it sleeps, or is refused.
 fn operate_on(
     engine: Engine,
     sets: [Set; SETS],
@@ -49,75 +91,39 @@ fn operate_on(
     requires { ⌜ Held (hostWith sets (now values) (now lasts) (now adjustments) (now arrays) line) ⌝ }
     ensures { λ r. ⌜ stepWith sets (now (values .exit)) (now (lasts .exit)) (now (adjustments .exit)) (now (arrays .exit)) r ≡ stepOf (doOperate (waker engine) (stateOf (hostWith sets (now (values .entry)) (now (lasts .entry)) (now (adjustments .entry)) (now (arrays .entry)) line)) process identifier (now (bytes .entry))) ⌝ }
 {
-    let start = Woken {
-        line: line,
-        looks: 0,
-        wakings: no_wakings(),
-    };
     let check = check_operate(sets, line, process, identifier, bytes);
     if check != 0 {
-        return Told {
-            code: answer(check),
-            woken: start,
-        };
+        return refused(check, line);
     }
     let slot = slot_of(identifier);
-    let before = values_of(&*values, slot);
-    let copies = Copies {
-        values: before,
-        adjustments: adjustments_of(&*adjustments, process, slot),
-    };
-    let judged = judge(copies, bytes);
+    let judged = judge_at(&*values, &*adjustments, process, slot, bytes);
     let outcome = judged.outcome;
+    let mut woken = unwoken(line);
     match outcome {
         Outcome::Done => {
-            let after = judged.copies;
-            apply(
-                &mut *values,
-                &mut *lasts,
-                &mut *adjustments,
-                process,
-                slot,
-                bytes,
-                after,
-            );
-            let touched = differing_mask(before, values_of(&*values, slot));
-            let woken = wake(
+            let copies = judged.copies;
+            woken = complete(
                 engine,
-                slot,
-                touched,
                 values,
                 lasts,
                 adjustments,
                 arrays,
-                start,
+                line,
+                process,
+                slot,
+                bytes,
+                copies,
             );
-            Told {
-                code: 0,
-                woken: woken,
-            }
         }
         Outcome::Sleep => {
-            store_array(arrays, process, bytes);
-            let place = Place {
-                process: process,
-                slot: slot as u8,
-                size: bytes.len() as u8,
-                names: names_of(bytes),
-            };
-            Told {
-                code: -1,
-                woken: Woken {
-                    line: join(line, place),
-                    looks: 0,
-                    wakings: no_wakings(),
-                },
-            }
+            let longer = fall_asleep(line, arrays, process, slot, bytes);
+            woken = unwoken(longer);
         }
-        _ => Told {
-            code: code_of(outcome),
-            woken: start,
-        },
+        _ => {}
+    }
+    Told {
+        code: code_of(outcome),
+        woken: woken,
     }
 }
 

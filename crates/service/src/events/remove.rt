@@ -4,10 +4,11 @@ ghost use Prim.Native.Nat.{_+_, _%_};
 ghost use Rattle.model.specs.State.{freeSet};
 ghost use Rattle.model.specs.Events.{doRemove};
 ghost use Rattle.model.specs.Layout.{Held, stateOf, stepOf};
+use crate::Told;
 use crate::checks::check_remove;
-use crate::line::Removed;
-use crate::line::no_wakings;
+use crate::events::step;
 use crate::line::remove_set;
+use crate::quiet::unwoken;
 use crate::table::clear_slot;
 use judging::answer;
 use judging::slot_of;
@@ -37,34 +38,20 @@ pub fn remove(h: Host, identifier: i32) -> Step
     let mut values = h.values;
     let mut lasts = h.lasts;
     let mut adjustments = h.adjustments;
-    let old = h.line;
+    let line = h.line;
     let mut arrays = h.arrays;
-    let mut left = Removed {
-        line: old,
-        wakings: no_wakings(),
-    };
+    let mut woken = unwoken(line);
     let code = check_remove(sets, identifier);
     if code == 0 {
         let slot = slot_of(identifier);
         let set = sets[slot];
         sets[slot] = freed(set);
         clear_slot(&mut values, &mut lasts, &mut adjustments, slot);
-        left = remove_set(old, &mut arrays, slot);
+        woken = remove_set(line, &mut arrays, slot);
     }
-    let line = left.line;
-    let wakings = left.wakings;
-    Step {
-        host: Host {
-            sets: sets,
-            values: values,
-            lasts: lasts,
-            adjustments: adjustments,
-            line: line,
-            arrays: arrays,
-        },
+    let told = Told {
         code: answer(code),
-        value: 0,
-        looks: 0,
-        wakings: wakings,
-    }
+        woken: woken,
+    };
+    step(sets, values, lasts, adjustments, arrays, told)
 }

@@ -5,13 +5,12 @@ ghost use Rattle.model.specs.Events.{doSetValue};
 ghost use Rattle.model.specs.Layout.{Held, stateOf, stepOf};
 ghost use Rattle.service.specs.Told.{hostWith, stepWith};
 use crate::Told;
-use crate::Woken;
 use crate::checks::check_set_value;
 use crate::events::step;
-use crate::line::no_wakings;
+use crate::quiet::refused;
+use crate::quiet::unwoken;
 use crate::table::assign;
 use crate::waking::wake;
-use judging::answer;
 use judging::slot_of;
 use judging::value_of;
 use model::ALL_ADJUSTMENTS;
@@ -39,17 +38,9 @@ fn set_value_on(
     requires { ⌜ Held (hostWith sets (now values) (now lasts) (now adjustments) (now arrays) line) ⌝ }
     ensures { λ r. ⌜ stepWith sets (now (values .exit)) (now (lasts .exit)) (now (adjustments .exit)) (now (arrays .exit)) r ≡ stepOf (doSetValue (waker engine) (stateOf (hostWith sets (now (values .entry)) (now (lasts .entry)) (now (adjustments .entry)) (now (arrays .entry)) line)) identifier number value) ⌝ }
 {
-    let start = Woken {
-        line: line,
-        looks: 0,
-        wakings: no_wakings(),
-    };
     let check = check_set_value(sets, identifier, number, value);
     if check != 0 {
-        return Told {
-            code: answer(check),
-            woken: start,
-        };
+        return refused(check, line);
     }
     let slot = slot_of(identifier);
     let at = number as usize;
@@ -63,7 +54,7 @@ fn set_value_on(
         lasts,
         adjustments,
         arrays,
-        start,
+        unwoken(line),
     );
     Told {
         code: 0,

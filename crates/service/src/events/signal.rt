@@ -5,29 +5,33 @@ ghost use Rattle.model.specs.Events.{keep, isOf, endedWith, doSignal};
 ghost use Rattle.model.specs.Layout.{Held, stateOf, stepOf, queueOf, wakingsOf};
 ghost use Rattle.model.proofs.QueueLaws.{notOf};
 ghost use Rattle.service.specs.Line.{Holds, Lined};
+use crate::Told;
+use crate::Woken;
 use crate::checks::check_process;
 use crate::checks::is_asleep;
-use crate::line::Removed;
+use crate::events::step;
 use crate::line::leave;
 use crate::line::no_wakings;
 use crate::line::note;
+use crate::quiet::unwoken;
 use judging::answer;
 use model::Host;
 use model::Line;
 use model::Step;
 
 // Ends the sleeper of `process` with 4 and takes it out. If it is awake, nothing changes.
-fn interrupt(line: Line, arrays: &mut [u8], process: u8) -> Removed
+fn interrupt(line: Line, arrays: &mut [u8], process: u8) -> Woken
     requires { ⌜ Lined line (now arrays) ⌝ }
     ensures { λ r. ⌜ Holds (r .line) (now (arrays .exit)) (keep (notOf process) (queueOf line (now (arrays .entry)))) ⌝ }
-    ensures { λ r. ⌜ r .wakings ≡ wakingsOf (endedWith (pos 4) (isOf process) (queueOf line (now (arrays .entry)))) ⌝ }
+    ensures { λ r. ⌜ r ≡ record { line = r .line; looks = 0; wakings = wakingsOf (endedWith (pos 4) (isOf process) (queueOf line (now (arrays .entry)))) } ⌝ }
 {
     let mut wakings = no_wakings();
     if is_asleep(line, process) {
         wakings = note(wakings, process, 4);
     }
-    Removed {
+    Woken {
         line: leave(line, arrays, process),
+        looks: 0,
         wakings: wakings,
     }
 }
@@ -40,30 +44,16 @@ pub fn signal(h: Host, process: u8) -> Step
     let values = h.values;
     let lasts = h.lasts;
     let adjustments = h.adjustments;
-    let old = h.line;
+    let line = h.line;
     let mut arrays = h.arrays;
-    let mut left = Removed {
-        line: old,
-        wakings: no_wakings(),
-    };
+    let mut woken = unwoken(line);
     let code = check_process(process);
     if code == 0 {
-        left = interrupt(old, &mut arrays, process);
+        woken = interrupt(line, &mut arrays, process);
     }
-    let line = left.line;
-    let wakings = left.wakings;
-    Step {
-        host: Host {
-            sets: sets,
-            values: values,
-            lasts: lasts,
-            adjustments: adjustments,
-            line: line,
-            arrays: arrays,
-        },
+    let told = Told {
         code: answer(code),
-        value: 0,
-        looks: 0,
-        wakings: wakings,
-    }
+        woken: woken,
+    };
+    step(sets, values, lasts, adjustments, arrays, told)
 }

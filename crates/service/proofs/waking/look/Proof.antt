@@ -1,15 +1,11 @@
--- `service::waking::look` meets its contract: the copies are the rows of the sleeper's slot, and the part of the bytes its array.
+-- `service::waking::look` meets its contract: the part of the bytes is the sleeper's array.
 use Prim.Native.Nat.{_+_, _*_, _-_}
 use mathlib.Core.Path.{_≡_}
 use native.Mathlib.Omega.{arith}
 use Rattle.model.specs.Limits.{arrayBytes}
-use Rattle.model.specs.Look.{look, valuesOf, adjustmentsOf}
 use borrow.Author.Needs.{needs}
 use Rattle.service.proofs.waking.look.Statement.{statement}
 use Rattle.service.proofs.waking.look.Tie as tie
-
-cast-slot : tie.Need-cast-slot
-cast-slot c = search needs
 
 sub-from : tie.Need-sub-from
 sub-from c = search needs
@@ -26,45 +22,39 @@ cast-to c = search needs
 add-to : tie.Need-add-to
 add-to c = search needs
 
-values-of-requires : tie.Need-values-of-requires
-values-of-requires c κs = search needs
+cast-judge-at : tie.Need-cast-judge-at
+cast-judge-at c = search needs
 
-adjustments-of-requires : tie.Need-adjustments-of-requires
-adjustments-of-requires c κs = search needs
+sub-judge-at : tie.Need-sub-judge-at
+sub-judge-at c = search needs
 
-sub-judge : tie.Need-sub-judge
-sub-judge c = search needs
+part-judge-at-start : tie.Need-part-judge-at-start
+part-judge-at-start c = search needs
 
-part-judge-start : tie.Need-part-judge-start
-part-judge-start c = search needs
+part-judge-at-end : tie.Need-part-judge-at-end
+part-judge-at-end c = search needs
 
-part-judge-end : tie.Need-part-judge-end
-part-judge-end c = search needs
-
-judge-requires : tie.Need-judge-requires
-judge-requires c κs = search needs
+judge-at-requires : tie.Need-judge-at-requires
+judge-at-requires c κs = search needs
 
 returns : tie.Need-returns
-unfolding look valuesOf adjustmentsOf
 returns c =
-    let a = c .before .before .before .before .before .before .before .args in
+    let a = c .before .before .before .before .before .args in
     let size : arrayBytes * (a .place .process - 1) + a .place .size - arrayBytes * (a .place .process - 1) ≡ a .place .size = omega arith in
-    rw (c .before .before .before .values-of .ensures, c .before .before .adjustments-of .ensures, size) at (c .judge .ensures)
+    rw size at (c .judge-at .ensures)
 
 pub look-spec : {M : Type 1} → statement M
 look-spec =
     tie.close
     (tie.spec
-    cast-slot
     sub-from
     cast-from
     mul-from
     cast-to
     add-to
-    values-of-requires
-    adjustments-of-requires
-    sub-judge
-    part-judge-start
-    part-judge-end
-    judge-requires
+    cast-judge-at
+    sub-judge-at
+    part-judge-at-start
+    part-judge-at-end
+    judge-at-requires
     returns)

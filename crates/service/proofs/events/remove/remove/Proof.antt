@@ -1,7 +1,7 @@
 -- `service::events::remove::remove` meets its contract.
 use Prim.Native.Nat.{_<_}
 use native.Mathlib.Omega.{arith}
-use mathlib.Core.Path.{_≡_, refl, ap, _∙_}
+use mathlib.Core.Path.{_≡_, refl, sym, ap, _∙_}
 use mathlib.Core.Logic.{⊎-elim}
 use mir.Syntax.{w32}
 use mir.Facts.{toZ-ofZ}
@@ -11,13 +11,13 @@ use Rattle.model.specs.Limits.{slots}
 use Rattle.model.specs.Checks.{slotOf, checkRemove}
 use Rattle.model.specs.Layout.{stateOf}
 use Rattle.service.proofs.CheckLaws.{slot-within}
-use Rattle.service.proofs.EventLaws.{held-lined}
+use Rattle.service.proofs.EventLaws.{held-lined, held-bytes}
 use Rattle.service.proofs.EventSteps.{remove-refused, removed}
 use Rattle.service.proofs.events.remove.remove.Statement.{statement}
 use Rattle.service.proofs.events.remove.remove.Tie as tie
 
-no-wakings-requires : tie.Need-no-wakings-requires
-no-wakings-requires c κs = search needs
+unwoken-requires : tie.Need-unwoken-requires
+unwoken-requires c κs = search needs
 
 check-remove-requires : tie.Need-check-remove-requires
 check-remove-requires c κs = search needs
@@ -57,7 +57,9 @@ clear-slot-requires : tie.Need-clear-slot-requires
 clear-slot-requires c κs = slot-small (c .before .before .before .before .before)
 
 slice-aggregate-remove-set : tie.Need-slice-aggregate-remove-set
-slice-aggregate-remove-set c = search needs
+slice-aggregate-remove-set c =
+    let s = c .before .before .before .before .before .before .before .before .before .before .before .before .before .before .before .before .before in
+    sym (held-bytes (s .args .h) (s .pre))
 
 remove-set-requires : tie.Need-remove-set-requires
 remove-set-requires c κs =
@@ -67,24 +69,28 @@ remove-set-requires c κs =
 answer-requires : tie.Need-answer-requires
 answer-requires c κs = search needs
 
+step-requires : tie.Need-step-requires
+step-requires c κs = search needs
+
 returns : tie.Need-returns
 returns c =
-    let d = c .before .before .before .before in
+    let d = c .before .before .before in
     let s = d .before .before .before .before .before .before .before .before in
-    let code = toZ-ofZ {w = w32} {z = c .answer .result} (record { sfits = c .answer .ok }) in
-    ⊎-elim
-    (λ v. rw (code, c .answer .ensures, v .12, v .13, v .14, v .15, v .16)
+    let code = toZ-ofZ {w = w32} {z = c .before .answer .result} (record { sfits = c .before .answer .ok }) in
+    c .step .ensures
+    ∙ ⊎-elim
+    (λ v. rw (code, c .before .answer .ensures, v .12, v .13, v .14, v .15, v .16)
     (removed (s .args .h) (s .pre) (s .args .identifier) (code-is d) (v .0 .taken) (slot-is (record { before = record { before = d; if1 = v .0 }; slot-of = v .1 }))
     (v .11 ∙ ap (λ g. set (s .args .h .sets) (v .1 .result) g) (v .3 .ensures)) (v .7 .ensures) (v .9 .ensures)))
-    (λ v. rw (code, c .answer .ensures, v .1, v .2, v .3, v .4, v .5, v .6, d .before .no-wakings .ensures)
+    (λ v. rw (code, c .before .answer .ensures, v .1, v .2, v .3, v .4, v .5, v .6, d .before .unwoken .ensures)
     (remove-refused (s .args .h) (s .pre) (s .args .identifier) (code-is d) (v .0 .left)))
-    (c .before .before .before .if1 .came)
+    (c .before .before .if1 .came)
 
 pub remove-spec : {M : Type 1} → statement M
 remove-spec =
     tie.close
     (tie.spec
-    no-wakings-requires
+    unwoken-requires
     check-remove-requires
     slot-of-requires
     mul-set
@@ -96,4 +102,5 @@ remove-spec =
     slice-aggregate-remove-set
     remove-set-requires
     answer-requires
+    step-requires
     returns)

@@ -1,9 +1,10 @@
 -- `service::events::signal::interrupt` meets its contract.
 use native.Mathlib.Omega.{arith}
-use mathlib.Core.Path.{_≡_, sym, _∙_}
+use mathlib.Core.Path.{_≡_, sym, ap, _∙_}
 use mathlib.Core.Logic.{⊎-elim}
 use mathlib.Core.List.{[]}
 use borrow.Author.Needs.{needs}
+use Rattle.model.specs.declared.Wakings.{Wakings}
 use Rattle.model.specs.Checks.{asleep}
 use Rattle.model.specs.Layout.{queueOf}
 use Rattle.service.proofs.LineLaws.{few, count-of}
@@ -34,10 +35,11 @@ returns c =
     let d = c .before .before .before .before .before in
     let s = d .before .before .before in (
       c .before .before .leave .ensures,
-      ⊎-elim
+      ap (λ (x : Wakings). record { line = c .before .before .leave .result; looks = 0; wakings = x })
+          (⊎-elim
           (λ v. v .2 ∙ v .1 .ensures ∙ told-asleep (s .pre) (s .args .process) _ (sleeps d ∙ v .0 .taken) (d .before .no-wakings .ensures))
           (λ v. v .1 ∙ d .before .no-wakings .ensures ∙ told-awake (s .pre) (s .args .process) _ (sleeps d ∙ v .0 .left))
-          (c .before .before .before .before .if1 .came),
+          (c .before .before .before .before .if1 .came)),
     )
 
 pub interrupt-spec : {M : Type 1} → statement M

@@ -1,0 +1,29 @@
+// What an event tells that wakes nobody.
+ghost use mathlib.Core.Path.{_≡_};
+ghost use Rattle.service.specs.Told.{unwokenAt, refusedWith};
+use crate::Told;
+use crate::Woken;
+use crate::line::no_wakings;
+use judging::answer;
+use model::Line;
+
+// Nobody was looked at or woken.
+pub fn unwoken(line: Line) -> Woken
+    ensures { λ r. ⌜ r ≡ unwokenAt line ⌝ }
+{
+    Woken {
+        line: line,
+        looks: 0,
+        wakings: no_wakings(),
+    }
+}
+
+// The code of the check that applies, and the line as it was.
+pub fn refused(check: u8, line: Line) -> Told
+    ensures { λ r. ⌜ r ≡ refusedWith check line ⌝ }
+{
+    Told {
+        code: answer(check),
+        woken: unwoken(line),
+    }
+}
