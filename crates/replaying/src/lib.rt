@@ -4,13 +4,16 @@
 // more. Each promises one equation with its definition in specs/Replay.antt; proofs/Whole.antt has that the pieces put
 // together are the whole text.
 ghost use mathlib.Core.Path.{_≡_};
-ghost use Prim.Native.Nat.{_≤_};
-ghost use lib.ListN.{length};
+ghost use Prim.Native.Nat.{_+_, _≤_};
+ghost use lib.ListN.{length, take};
+ghost use Rattle.lines.specs.Text.{eventText};
+ghost use Rattle.lines.specs.Buffer.{lineBytes, putLine};
 ghost use Rattle.replaying.specs.Replay.{Came, begun, pieceOf};
 
 mod body;
 
-use body::step_at;
+use body::event_at;
+use body::query_at;
 use lines::bad_line;
 use lines::event_line;
 use lines::has_room;
@@ -18,15 +21,17 @@ use lines::head_line;
 use lines::query_line;
 use model::Engine;
 use model::Host;
+use model::Line;
 use model::PROCESSES;
-use model::Step;
+use model::SETS;
+use model::Set;
 use model::Waking;
 use model::Wakings;
 use model::fresh;
-use runfile::half_at;
-use runfile::signed_at;
 use runfile::size_at;
-use service::query;
+use service::Told;
+use service::Woken;
+use service::step;
 
 // How far a replay has come: the host, the position of the next event, how many are left, and where the next body begins.
 pub struct Progress {
@@ -68,35 +73,63 @@ pub fn start(file: &[u8], out: &mut [u8]) -> Wrote
     }
 }
 
-// A step that leaves a host as it is, before the first event of a piece.
-fn still(host: Host) -> Step
-    ensures { λ r. ⌜ r .host ≡ host ⌝ }
+// The line of what an event told.
+fn told_line(out: &mut [u8], at: usize, position: usize, told: Told) -> usize
+    ensures { λ r. ⌜ (r, now (out .exit)) ≡ putLine (now (out .entry)) at (eventText position (told .code) (told .value) (told .woken .looks) (take (told .woken .wakings .count) (told .woken .wakings .list))) ⌝ }
+    ensures { λ r. ⌜ r ≤ at + lineBytes ⌝ }
+{
+    let woken = told.woken;
+    let wakings = woken.wakings;
+    event_line(
+        out,
+        at,
+        position,
+        told.code,
+        told.value,
+        woken.looks,
+        wakings,
+    )
+}
+
+// What is told before the first event of a piece: the sets and the line, and nothing else.
+fn still(sets: [Set; SETS], line: Line) -> Told
+    ensures { λ r. ⌜ r .sets ≡ sets ⌝ }
+    ensures { λ r. ⌜ r .woken .line ≡ line ⌝ }
 {
     let none = Waking {
         process: 0,
         code: 0,
     };
     let list = [none; PROCESSES];
-    Step {
-        host: host,
+    Told {
+        sets: sets,
         code: 0,
         value: 0,
-        looks: 0,
-        wakings: Wakings {
-            count: 0,
-            list: list,
+        woken: Woken {
+            line: line,
+            looks: 0,
+            wakings: Wakings {
+                count: 0,
+                list: list,
+            },
         },
     }
 }
 
-// Runs events and writes their lines. From turn to turn the step of the last one is kept: its host is the next one's.
+// Runs events and writes their lines. The host is taken apart, and its arrays lent from turn to turn.
 pub fn piece(engine: Engine, file: &[u8], p: Progress, out: &mut [u8]) -> Wrote
     requires { ⌜ Came (now file) p ⌝ }
     ensures { λ r. ⌜ (r, now (out .exit)) ≡ pieceOf engine (now (file .entry)) p (now (out .entry)) ⌝ }
     ensures { λ r. ⌜ r .written ≤ length (now (out .exit)) ⌝ }
 {
     let host = p.host;
-    let mut step = still(host);
+    let sets = host.sets;
+    let line = host.line;
+    let mut told = still(sets, line);
+    let mut values = host.values;
+    let mut lasts = host.lasts;
+    let mut undo = host.adjustments;
+    let mut arrays = host.arrays;
     let mut position = p.position;
     let mut left = p.left;
     let mut at = p.at;
@@ -106,28 +139,27 @@ pub fn piece(engine: Engine, file: &[u8], p: Progress, out: &mut [u8]) -> Wrote
             break;
         }
         if file[at] == 7 {
-            let host = step.host;
-            let answer = query(host, signed_at(file, at + 1), half_at(file, at + 5));
+            let answer = query_at(told, &values, &lasts, &undo, &arrays, file, at);
             next = query_line(out, next, position, answer);
         } else {
-            let host = step.host;
-            step = step_at(engine, host, file, at);
-            let wakings = step.wakings;
-            next = event_line(
-                out,
-                next,
-                position,
-                step.code,
-                step.value,
-                step.looks,
-                wakings,
+            told = event_at(
+                engine,
+                told,
+                &mut values,
+                &mut lasts,
+                &mut undo,
+                &mut arrays,
+                file,
+                at,
             );
+            next = told_line(out, next, position, told);
         }
         at += size_at(file, at);
         position += 1;
         left -= 1;
     }
-    let host = step.host;
+    let last = step(values, lasts, undo, arrays, told);
+    let host = last.host;
     Wrote {
         progress: Progress {
             host: host,

@@ -22,50 +22,39 @@ use Rattle.model.proofs.QueueLaws.{awake, notOf}
 use Rattle.model.proofs.LayoutLaws.{ended-awake, ended-at}
 use Rattle.service.specs.declared.Woken.{Woken}
 use Rattle.service.specs.Line.{positionOf, noted, Holds, Lined, Emptied}
-use Rattle.service.specs.Told.{stepWith, refusedWith}
+use Rattle.service.specs.Told.{stepWith, unwokenAt, telling, refusedWith}
 use Rattle.service.proofs.LineLaws.{asleep-of, found, noted-more}
 use Rattle.service.proofs.CheckLaws.{asleep-found}
-use Rattle.service.proofs.EventLaws.{held-line, held-arrays, step-refused}
+use Rattle.service.proofs.EventLaws.{held-line, held-arrays}
 use Rattle.service.proofs.ToldLaws.{told-refused}
 
 -- ---- create
 
--- a step with a value
-abbrev stepTo : List Set → Table → Line → List ℕ → ℤ → ℕ → Wakings → Step
-stepTo sets t line arrays code value wakings =
-    record {
-      host = record { sets = sets; values = t .values; lasts = t .lasts; adjustments = t .adjustments; line = line; arrays = arrays };
-      code = code;
-      value = value;
-      looks = 0;
-      wakings = wakings;
-    }
-
 module _ (h : Host) (k : Held h) (count read alter : ℕ) {code : ℕ} (e : code ≡ checkCreate (stateOf h) count) where
-  pub create-refused : (code ≡ 0 → ⊥) → stepTo (h .sets) (stateOf h .table) (h .line) (h .arrays) (pos code) 0 (wakingsOf []) ≡ stepOf (doCreate (stateOf h) count read alter)
+  pub create-refused : (code ≡ 0 → ⊥) → stepWith (h .values) (h .lasts) (h .adjustments) (h .arrays) (refusedWith code (h .sets) (h .line)) ≡ stepOf (doCreate (stateOf h) count read alter)
   unfolding doCreate
-  create-refused n = rw (← e) (step-refused h k code _ n)
+  create-refused n = told-refused h k _ e n refl
 
   pub created : {slot value : ℕ} {sets : List Set} {t : Table} → code ≡ 0 → slot ≡ freeSlot (h .sets)
       → sets ≡ set (h .sets) slot (record { generation = getD (h .sets) slot noSet .generation; count = count; read = read; alter = alter })
       → t ≡ cleared (stateOf h .table) slot
       → value ≡ slot + slots * getD (h .sets) slot noSet .generation
-      → stepTo sets t (h .line) (h .arrays) (pos code) value (wakingsOf []) ≡ stepOf (doCreate (stateOf h) count read alter)
+      → stepWith (t .values) (t .lasts) (t .adjustments) (h .arrays) (record { sets = sets; code = pos code; value = value; woken = unwokenAt (h .line) }) ≡ stepOf (doCreate (stateOf h) count read alter)
   unfolding doCreate identifierOf
   created z es ek et ev = rw (← e, z, ek, et, ev, es, ← held-line h k, ← held-arrays h k)
 
 -- ---- remove
 
 module _ (h : Host) (k : Held h) (i : ℤ) {code : ℕ} (e : code ≡ checkRemove (stateOf h) i) where
-  pub remove-refused : (code ≡ 0 → ⊥) → stepWith (h .sets) (h .values) (h .lasts) (h .adjustments) (h .arrays) (refusedWith code (h .line)) ≡ stepOf (doRemove (stateOf h) i)
+  pub remove-refused : {w : Woken} → (code ≡ 0 → ⊥) → w ≡ unwokenAt (h .line) → stepWith (h .values) (h .lasts) (h .adjustments) (h .arrays) (telling (h .sets) (pos code) w) ≡ stepOf (doRemove (stateOf h) i)
   unfolding doRemove
-  remove-refused n = told-refused h k _ e n refl
+  remove-refused n ew = told-refused h k _ e n (ap (telling (h .sets) (pos code)) ew)
 
   pub removed : {slot : ℕ} {sets : List Set} {t : Table} {arrays : List ℕ} {w : Woken} → code ≡ 0 → slot ≡ slotOf i
       → sets ≡ set (h .sets) slot (freeSet ((getD (h .sets) slot noSet .generation + 1) % 65536))
       → t ≡ cleared (stateOf h .table) slot
       → Emptied slot (stateOf h .queue) arrays w
-      → stepWith sets (t .values) (t .lasts) (t .adjustments) arrays (record { code = pos code; woken = w }) ≡ stepOf (doRemove (stateOf h) i)
+      → stepWith (t .values) (t .lasts) (t .adjustments) arrays (telling sets (pos code) w) ≡ stepOf (doRemove (stateOf h) i)
   unfolding doRemove
   removed z es ek et m = rw (← e, z, ek, et, m .rest .places, m .rest .bytes, m .looks, m .told, es)
 
@@ -88,13 +77,13 @@ module _ {line : Line} {arrays : List ℕ} (l : Lined line arrays) (p : ℕ) (co
   told-awake t = rw (ended-awake p code sleepers (awake p sleepers t))
 
 module _ (h : Host) (k : Held h) (p : ℕ) {code : ℕ} (e : code ≡ checkProcess p) where
-  pub signal-refused : (code ≡ 0 → ⊥) → stepWith (h .sets) (h .values) (h .lasts) (h .adjustments) (h .arrays) (refusedWith code (h .line)) ≡ stepOf (doSignal (stateOf h) p)
+  pub signal-refused : {w : Woken} → (code ≡ 0 → ⊥) → w ≡ unwokenAt (h .line) → stepWith (h .values) (h .lasts) (h .adjustments) (h .arrays) (telling (h .sets) (pos code) w) ≡ stepOf (doSignal (stateOf h) p)
   unfolding doSignal
-  signal-refused n = told-refused h k _ e n refl
+  signal-refused n ew = told-refused h k _ e n (ap (telling (h .sets) (pos code)) ew)
 
   pub signalled : {arrays : List ℕ} {w : Woken} → code ≡ 0 → Holds (w .line) arrays (keep (notOf p) (stateOf h .queue))
       → w ≡ record { line = w .line; looks = 0; wakings = wakingsOf (endedWith (pos 4) (isOf p) (stateOf h .queue)) }
-      → stepWith (h .sets) (h .values) (h .lasts) (h .adjustments) arrays (record { code = pos code; woken = w }) ≡ stepOf (doSignal (stateOf h) p)
+      → stepWith (h .values) (h .lasts) (h .adjustments) arrays (telling (h .sets) (pos code) w) ≡ stepOf (doSignal (stateOf h) p)
   unfolding doSignal
   signalled {arrays} {w} z m ew =
-      ap (λ (x : Woken). stepWith (h .sets) (h .values) (h .lasts) (h .adjustments) arrays (record { code = pos code; woken = x })) ew ∙ rw (← e, z, m .places, m .bytes)
+      ap (λ (x : Woken). stepWith (h .values) (h .lasts) (h .adjustments) arrays (telling (h .sets) (pos code) x)) ew ∙ rw (← e, z, m .places, m .bytes)

@@ -18,11 +18,11 @@ use Rattle.model.proofs.Invariant.{Good, Fits, Distinct}
 use Rattle.model.proofs.CheckLaws.{process-passes}
 use Rattle.model.proofs.QueueLaws.{notOf, keep-all, keep-distinct}
 use Rattle.model.proofs.TableLaws.{exited-good}
-use Rattle.service.specs.declared.Told.{Told}
+use Rattle.service.specs.declared.Woken.{Woken}
 use Rattle.service.specs.Table.{IsProcess}
 use Rattle.service.specs.Line.{Holds}
 use Rattle.service.specs.Parts.{Ready, parts, left, treatedFrom}
-use Rattle.service.specs.Told.{stepWith, unwokenAt}
+use Rattle.service.specs.Told.{stepWith, unwokenAt, telling}
 use Rattle.service.proofs.EventLaws.{held-invariant, goes-on}
 use Rattle.service.proofs.ToldLaws.{told-woken, poised-ready, poised-all}
 
@@ -48,10 +48,10 @@ module _ (h : Host) (k : Held h) (p : ℕ) (z : checkProcess p ≡ 0) {values ar
   pub exit-ready : Ready (parts values (h .lasts) adjustments arrays (unwokenAt line))
   exit-ready = poised-ready h k _ (keep (notOf p) (stateOf h .queue)) good fits distinct et o
 
-  pub exit-told : (engine : Engine) (told : Told) {values′ lasts′ arrays′ touched : List ℕ} {adjustments′ : List ℤ} → touched ≡ touchedFrom slots 0 (stateOf h .table) (exited (stateOf h .table) p) → told .code ≡ pos 0
-      → left values′ lasts′ adjustments′ arrays′ (told .woken) ≡ treatedFrom engine (h .sets) 0 touched (parts values (h .lasts) adjustments arrays (unwokenAt line)) 0
-      → stepWith (h .sets) values′ lasts′ adjustments′ arrays′ told ≡ stepOf (doExit (waker engine) (stateOf h) p)
+  pub exit-told : (engine : Engine) (code : ℤ) (w : Woken) {values′ lasts′ arrays′ touched : List ℕ} {adjustments′ : List ℤ} → touched ≡ touchedFrom slots 0 (stateOf h .table) (exited (stateOf h .table) p) → code ≡ pos 0
+      → left values′ lasts′ adjustments′ arrays′ w ≡ treatedFrom engine (h .sets) 0 touched (parts values (h .lasts) adjustments arrays (unwokenAt line)) 0
+      → stepWith values′ lasts′ adjustments′ arrays′ (telling (h .sets) code w) ≡ stepOf (doExit (waker engine) (stateOf h) p)
   unfolding doExit
-  exit-told engine told em c q =
-      told-woken (stateOf h) _ told c (q ∙ rw em (poised-all h k _ (keep (notOf p) (stateOf h .queue)) good fits distinct et o engine (h .sets) (touchedFrom slots 0 (stateOf h .table) (exited (stateOf h .table) p)) 0))
+  exit-told engine code w em c q =
+      told-woken (stateOf h) _ code w c (q ∙ rw em (poised-all h k _ (keep (notOf p) (stateOf h .queue)) good fits distinct et o engine (h .sets) (touchedFrom slots 0 (stateOf h .table) (exited (stateOf h .table) p)) 0))
       ∙ ap stepOf (goes-on (stateOf h) _ z)

@@ -34,12 +34,11 @@ use Rattle.model.proofs.Lists.{all-append}
 use Rattle.model.proofs.CheckLaws.{Operable, operate-passes}
 use Rattle.model.proofs.QueueLaws.{distinct-snoc, fits-few}
 use Rattle.model.proofs.LookLaws.{look-fine, applied-good, numbers-fit}
-use Rattle.service.specs.declared.Told.{Told}
 use Rattle.service.specs.declared.Woken.{Woken}
 use Rattle.service.specs.Table.{IsProcess, Numbered}
 use Rattle.service.specs.Line.{Holds, joined, stored}
 use Rattle.service.specs.Parts.{Ready, lookAs, parts, partsWith, left, treated, completed}
-use Rattle.service.specs.Told.{stepWith, unwokenAt, refusedWith}
+use Rattle.service.specs.Told.{stepWith, unwokenAt, telling, refusedWith}
 use Rattle.service.proofs.LineLaws.{joins}
 use Rattle.service.proofs.EventLaws.{held-invariant, held-lined, held-asleep, goes-on}
 use Rattle.service.proofs.ToldLaws.{told-refused, told-woken, poised-ready, poised-treated}
@@ -115,50 +114,47 @@ module _ (h : Host) (k : Held h) (p : ℕ) (i : ℤ) (bytes : List ℕ) (z : che
     done-ready es =
         rw (es, ej) (poised-ready h k after (stateOf h .queue) good (held-invariant h k .fits) (held-invariant h k .distinct) refl (held-lined h k .holds))
 
-    pub done-told : (told : Told) {values′ lasts′ arrays′ : List ℕ} {adjustments′ : List ℤ} {slot : ℕ} → j .outcome ≡ Done → slot ≡ slotOf i → told .code ≡ codeOf (j .outcome)
-        → left values′ lasts′ adjustments′ arrays′ (told .woken) ≡ completed engine (stateOf h .table) (record { process = p; slot = slot; array = bytes }) (j .copies) (h .arrays) (h .line)
-        → stepWith (h .sets) values′ lasts′ adjustments′ arrays′ told ≡ stepOf (doOperate (waker engine) (stateOf h) p i bytes)
+    pub done-told : (code : ℤ) (w : Woken) {values′ lasts′ arrays′ : List ℕ} {adjustments′ : List ℤ} {slot : ℕ} → j .outcome ≡ Done → slot ≡ slotOf i → code ≡ codeOf (j .outcome)
+        → left values′ lasts′ adjustments′ arrays′ w ≡ completed engine (stateOf h .table) (record { process = p; slot = slot; array = bytes }) (j .copies) (h .arrays) (h .line)
+        → stepWith values′ lasts′ adjustments′ arrays′ (telling (h .sets) code w) ≡ stepOf (doOperate (waker engine) (stateOf h) p i bytes)
     unfolding operated codeOf
-    done-told told eo es c q =
-        told-woken (stateOf h) _ told (c ∙ ap codeOf eo)
+    done-told code w eo es c q =
+        told-woken (stateOf h) _ code w (c ∙ ap codeOf eo)
         (q ∙ rw (es, ej) (poised-treated h k after (stateOf h .queue) good (held-invariant h k .fits) (held-invariant h k .distinct) refl (held-lined h k .holds) engine (slotOf i) _ 0))
         ∙ does eo
 
     -- ---- asleep
 
-    pub sleep-told : (told : Told) {arrays′ : List ℕ} {slot : ℕ} → j .outcome ≡ Sleep → slot ≡ slotOf i → told .code ≡ codeOf (j .outcome)
-        → told .woken ≡ unwokenAt (joined (h .line) (placeOf (record { process = p; slot = slot; array = bytes }))) → arrays′ ≡ stored (h .arrays) p bytes
-        → stepWith (h .sets) (h .values) (h .lasts) (h .adjustments) arrays′ told ≡ stepOf (doOperate (waker engine) (stateOf h) p i bytes)
+    pub sleep-told : (code : ℤ) (w : Woken) {arrays′ : List ℕ} {slot : ℕ} → j .outcome ≡ Sleep → slot ≡ slotOf i → code ≡ codeOf (j .outcome)
+        → w ≡ unwokenAt (joined (h .line) (placeOf (record { process = p; slot = slot; array = bytes }))) → arrays′ ≡ stored (h .arrays) p bytes
+        → stepWith (h .values) (h .lasts) (h .adjustments) arrays′ (telling (h .sets) code w) ≡ stepOf (doOperate (waker engine) (stateOf h) p i bytes)
     unfolding operated codeOf
-    sleep-told told {arrays′} {slot} eo es ec ew ea =
+    sleep-told code w {arrays′} {slot} eo es ec ew ea =
         let o : Holds (joined (h .line) (placeOf (call p i bytes))) (stored (h .arrays) p bytes) (stateOf h .queue ++ call p i bytes ∷ []) =
         joins (held-lined h k .holds) (held-lined h k .fits) (call p i bytes) (operable .others) (record { process = call-fits .process; last = call-fits .last; short = call-fits .short }) call-room in
-        let w : told .woken ≡ unwokenAt (lineOf (stateOf h .queue ++ call p i bytes ∷ [])) = ew ∙ rw es (ap unwokenAt (o .places)) in
+        let u : w ≡ unwokenAt (lineOf (stateOf h .queue ++ call p i bytes ∷ [])) = ew ∙ rw es (ap unwokenAt (o .places)) in
         let a : arrays′ ≡ arraysOf (stateOf h .queue ++ call p i bytes ∷ []) = ea ∙ o .bytes in
-        slept (ec ∙ ap codeOf eo) w a ∙ does eo
+        slept (ec ∙ ap codeOf eo) u a ∙ does eo
       where
-        slept : {told : Told} {arrays′ : List ℕ} → told .code ≡ negsuc 0 → told .woken ≡ unwokenAt (lineOf (stateOf h .queue ++ call p i bytes ∷ []))
-            → arrays′ ≡ arraysOf (stateOf h .queue ++ call p i bytes ∷ []) → stepWith (h .sets) (h .values) (h .lasts) (h .adjustments) arrays′ told ≡ stepOf (outcome-told Sleep)
-        slept ec w a = cc
+        slept : {code : ℤ} {w : Woken} {arrays′ : List ℕ} → code ≡ negsuc 0 → w ≡ unwokenAt (lineOf (stateOf h .queue ++ call p i bytes ∷ []))
+            → arrays′ ≡ arraysOf (stateOf h .queue ++ call p i bytes ∷ []) → stepWith (h .values) (h .lasts) (h .adjustments) arrays′ (telling (h .sets) code w) ≡ stepOf (outcome-told Sleep)
+        slept ec u a = cc
 
     -- ---- refused by judging
 
-    pub judged-told : (told : Told) → OneOf (2 ∷ 3 ∷ []) (tagOf the-type (j .outcome)) → told .code ≡ codeOf (j .outcome) → told .woken ≡ unwokenAt (h .line)
-        → stepWith (h .sets) (h .values) (h .lasts) (h .adjustments) (h .arrays) told ≡ stepOf (doOperate (waker engine) (stateOf h) p i bytes)
+    pub judged-told : (code : ℤ) (w : Woken) → OneOf (2 ∷ 3 ∷ []) (tagOf the-type (j .outcome)) → code ≡ codeOf (j .outcome) → w ≡ unwokenAt (h .line)
+        → stepWith (h .values) (h .lasts) (h .adjustments) (h .arrays) (telling (h .sets) code w) ≡ stepOf (doOperate (waker engine) (stateOf h) p i bytes)
     unfolding operated codeOf
-    judged-told told t ec ew = go (j .outcome) refl t ec
+    judged-told code w t ec ew = go (j .outcome) refl t ec
       where
         no : (n : ℕ) → suc n ≡ 0 → ⊥
         no n e = omega arith
 
-        telling : ℤ → Woken → Told
-        telling c w = record { code = c; woken = w }
+        same : {n : ℕ} → code ≡ pos n → telling (h .sets) code w ≡ refusedWith n (h .sets) (h .line)
+        same c = ap₂ (telling (h .sets)) c ew
 
-        same : {code : ℕ} → told .code ≡ pos code → told ≡ refusedWith code (h .line)
-        same c = ap₂ telling c ew
-
-        go : (o : Outcome) → j .outcome ≡ o → OneOf (2 ∷ 3 ∷ []) (tagOf the-type o) → told .code ≡ codeOf o
-            → stepWith (h .sets) (h .values) (h .lasts) (h .adjustments) (h .arrays) told ≡ stepOf (doOperate (waker engine) (stateOf h) p i bytes)
+        go : (o : Outcome) → j .outcome ≡ o → OneOf (2 ∷ 3 ∷ []) (tagOf the-type o) → code ≡ codeOf o
+            → stepWith (h .values) (h .lasts) (h .adjustments) (h .arrays) (telling (h .sets) code w) ≡ stepOf (doOperate (waker engine) (stateOf h) p i bytes)
         go Done e t c = absurd (miss (2 ∷ 3 ∷ []) 0 tt t)
         go Sleep e t c = absurd (miss (2 ∷ 3 ∷ []) 1 tt t)
         go Again e t c = told-refused h k {code = 11} {code′ = 11} (outcome-told Again) refl (no 10) (same c) ∙ does e

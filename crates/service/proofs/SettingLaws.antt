@@ -20,9 +20,9 @@ use Rattle.model.proofs.CheckLaws.{passes, Assignable, setValue-passes}
 use Rattle.model.proofs.Invariant.{Good}
 use Rattle.model.proofs.TableLaws.{assigned-good}
 use Rattle.judging.specs.Value.{valueOf}
-use Rattle.service.specs.declared.Told.{Told}
+use Rattle.service.specs.declared.Woken.{Woken}
 use Rattle.service.specs.Parts.{Ready, parts, left, treated}
-use Rattle.service.specs.Told.{stepWith, unwokenAt}
+use Rattle.service.specs.Told.{stepWith, unwokenAt, telling}
 use Rattle.service.proofs.EventLaws.{held-invariant, held-lined, held-counts, goes-on}
 use Rattle.service.proofs.ToldLaws.{told-woken, poised-ready, poised-treated}
 
@@ -49,10 +49,10 @@ module _ (h : Host) (k : Held h) (i : ℤ) (n : ℕ) (v : ℤ) (z : checkSetValu
     pub set-ready : Ready (parts values (h .lasts) adjustments (h .arrays) (unwokenAt (h .line)))
     set-ready = poised-ready h k _ (stateOf h .queue) good (held-invariant h k .fits) (held-invariant h k .distinct) et (held-lined h k .holds)
 
-    pub set-told : (engine : Engine) (told : Told) {values′ lasts′ arrays′ : List ℕ} {adjustments′ : List ℤ} {slot touched : ℕ} → slot ≡ slotOf i → touched ≡ 2 ^ n → told .code ≡ pos 0
-        → left values′ lasts′ adjustments′ arrays′ (told .woken) ≡ treated engine slot touched (parts values (h .lasts) adjustments (h .arrays) (unwokenAt (h .line))) 0
-        → stepWith (h .sets) values′ lasts′ adjustments′ arrays′ told ≡ stepOf (doSetValue (waker engine) (stateOf h) i n v)
+    pub set-told : (engine : Engine) (code : ℤ) (w : Woken) {values′ lasts′ arrays′ : List ℕ} {adjustments′ : List ℤ} {slot touched : ℕ} → slot ≡ slotOf i → touched ≡ 2 ^ n → code ≡ pos 0
+        → left values′ lasts′ adjustments′ arrays′ w ≡ treated engine slot touched (parts values (h .lasts) adjustments (h .arrays) (unwokenAt (h .line))) 0
+        → stepWith values′ lasts′ adjustments′ arrays′ (telling (h .sets) code w) ≡ stepOf (doSetValue (waker engine) (stateOf h) i n v)
     unfolding doSetValue
-    set-told engine told es em c q =
-        told-woken (stateOf h) _ told c (q ∙ rw (es, em) (poised-treated h k _ (stateOf h .queue) good (held-invariant h k .fits) (held-invariant h k .distinct) et (held-lined h k .holds) engine (slotOf i) (2 ^ n) 0))
+    set-told engine code w es em c q =
+        told-woken (stateOf h) _ code w c (q ∙ rw (es, em) (poised-treated h k _ (stateOf h .queue) good (held-invariant h k .fits) (held-invariant h k .distinct) et (held-lined h k .holds) engine (slotOf i) (2 ^ n) 0))
         ∙ ap stepOf (goes-on (stateOf h) _ z)

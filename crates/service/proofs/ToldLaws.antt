@@ -23,28 +23,28 @@ use Rattle.service.specs.declared.Told.{Told}
 use Rattle.service.specs.declared.Woken.{Woken}
 use Rattle.service.specs.Line.{Holds}
 use Rattle.service.specs.Parts.{Parts, Left, parts, partsOf, worldOf, left, leftOf, Ready, treated, treatedFrom}
-use Rattle.service.specs.Told.{stepWith, unwokenAt, refusedWith}
+use Rattle.service.specs.Told.{stepWith, unwokenAt, telling, refusedWith}
 use Rattle.service.proofs.PartsLaws.{world-back, parts-ready}
 use Rattle.service.proofs.EventLaws.{held-counts, step-refused}
 
 -- a refusal leaves the host
-pub told-refused : (h : Host) → Held h → {code code′ : ℕ} (does : Result) {told : Told} → code ≡ code′ → (code ≡ 0 → ⊥) → told ≡ refusedWith code (h .line)
-    → stepWith (h .sets) (h .values) (h .lasts) (h .adjustments) (h .arrays) told ≡ stepOf (checked code′ (stateOf h) does)
+pub told-refused : (h : Host) → Held h → {code code′ : ℕ} (does : Result) {told : Told} → code ≡ code′ → (code ≡ 0 → ⊥) → told ≡ refusedWith code (h .sets) (h .line)
+    → stepWith (h .values) (h .lasts) (h .adjustments) (h .arrays) told ≡ stepOf (checked code′ (stateOf h) does)
 told-refused h k {code} does e n w =
-    ap (stepWith (h .sets) (h .values) (h .lasts) (h .adjustments) (h .arrays)) w ∙ step-refused h k code does n ∙ ap (λ (x : ℕ). stepOf (checked x (stateOf h) does)) e
+    ap (stepWith (h .values) (h .lasts) (h .adjustments) (h .arrays)) w ∙ step-refused h k code does n ∙ ap (λ (x : ℕ). stepOf (checked x (stateOf h) does)) e
 
 -- what a waking leaves is the state after the event
-pub told-woken : (s : State) (e : Ended) {values lasts arrays : List ℕ} {adjustments : List ℤ} (told : Told) → told .code ≡ pos 0 → left values lasts adjustments arrays (told .woken) ≡ leftOf e
-    → stepWith (s .sets) values lasts adjustments arrays told ≡ stepOf (wokenAs s e)
+pub told-woken : (s : State) (e : Ended) {values lasts arrays : List ℕ} {adjustments : List ℤ} (code : ℤ) (w : Woken) → code ≡ pos 0 → left values lasts adjustments arrays w ≡ leftOf e
+    → stepWith values lasts adjustments arrays (telling (s .sets) code w) ≡ stepOf (wokenAs s e)
 unfolding partsOf
-told-woken s e {values} {lasts} {arrays} {adjustments} told c q =
+told-woken s e {values} {lasts} {arrays} {adjustments} code w c q =
     let a : values ≡ e .world .table .values = ap (λ (x : Left). x .parts .values) q in
     let b : lasts ≡ e .world .table .lasts = ap (λ (x : Left). x .parts .lasts) q in
     let d : adjustments ≡ e .world .table .adjustments = ap (λ (x : Left). x .parts .adjustments) q in
     let f : arrays ≡ arraysOf (e .world .queue) = ap (λ (x : Left). x .parts .arrays) q in
-    let g : told .woken .line ≡ lineOf (e .world .queue) = ap (λ (x : Left). x .parts .line) q in
-    let h : told .woken .wakings ≡ wakingsOf (e .world .wakings) = ap (λ (x : Left). x .parts .wakings) q in
-    let i : told .woken .looks ≡ e .looks = ap (λ (x : Left). x .looks) q in
+    let g : w .line ≡ lineOf (e .world .queue) = ap (λ (x : Left). x .parts .line) q in
+    let h : w .wakings ≡ wakingsOf (e .world .wakings) = ap (λ (x : Left). x .parts .wakings) q in
+    let i : w .looks ≡ e .looks = ap (λ (x : Left). x .looks) q in
     cc
 
 -- a table and a queue as an event leaves them, in the parts that it hands to the waking

@@ -14,20 +14,24 @@ use Rattle.service.specs.declared.Told.{Told}
 abbrev pub unwokenAt : Line → Woken
 unwokenAt line = record { line = line; looks = 0; wakings = wakingsOf [] }
 
--- the code of the check that applies, and the line as it was
-abbrev pub refusedWith : ℕ → Line → Told
-refusedWith code line = record { code = pos code; woken = unwokenAt line }
+-- a code, with the sets as they were, and what the waking returns
+abbrev pub telling : List Set → ℤ → Woken → Told
+telling sets code w = record { sets = sets; code = code; value = 0; woken = w }
+
+-- the code of the check that applies; the sets and the line are as they were
+abbrev pub refusedWith : ℕ → List Set → Line → Told
+refusedWith code sets line = telling sets (pos code) (unwokenAt line)
 
 abbrev pub hostWith : List Set → List ℕ → List ℕ → List ℤ → List ℕ → Line → Host
 hostWith sets values lasts adjustments arrays line =
     record { sets = sets; values = values; lasts = lasts; adjustments = adjustments; line = line; arrays = arrays }
 
-abbrev pub stepWith : List Set → List ℕ → List ℕ → List ℤ → List ℕ → Told → Step
-stepWith sets values lasts adjustments arrays told =
+abbrev pub stepWith : List ℕ → List ℕ → List ℤ → List ℕ → Told → Step
+stepWith values lasts adjustments arrays told =
     record {
-      host = hostWith sets values lasts adjustments arrays (told .woken .line);
+      host = hostWith (told .sets) values lasts adjustments arrays (told .woken .line);
       code = told .code;
-      value = 0;
+      value = told .value;
       looks = told .woken .looks;
       wakings = told .woken .wakings;
     }

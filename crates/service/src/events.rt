@@ -6,8 +6,6 @@ use model::ALL_ADJUSTMENTS;
 use model::ALL_BYTES;
 use model::ALL_SEMAPHORES;
 use model::Host;
-use model::SETS;
-use model::Set;
 use model::Step;
 
 pub mod create;
@@ -20,15 +18,15 @@ pub mod signal;
 
 // The parts after an event, and what it tells, put together.
 pub fn step(
-    sets: [Set; SETS],
     values: [u16; ALL_SEMAPHORES],
     lasts: [u8; ALL_SEMAPHORES],
     adjustments: [i16; ALL_ADJUSTMENTS],
     arrays: [u8; ALL_BYTES],
     told: Told,
 ) -> Step
-    ensures { λ r. ⌜ r ≡ stepWith sets values lasts adjustments arrays told ⌝ }
+    ensures { λ r. ⌜ r ≡ stepWith values lasts adjustments arrays told ⌝ }
 {
+    let sets = told.sets;
     let woken = told.woken;
     let line = woken.line;
     let wakings = woken.wakings;
@@ -42,7 +40,7 @@ pub fn step(
             arrays: arrays,
         },
         code: told.code,
-        value: 0,
+        value: told.value,
         looks: woken.looks,
         wakings: wakings,
     }

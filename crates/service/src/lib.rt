@@ -5,8 +5,9 @@
 // from an event. Create, remove, signal and query wake nobody by a rule; operate, set value and exit go by the engine they
 // are handed.
 //
-// Within, only the events take the host. They take its parts into locals, lend them to the functions that do the work, and
-// build the answer once.
+// Each event has a second form, `_on` the parts of a host: a caller that runs many events lends the large arrays and
+// copies none of them. It does the work; the form on a whole host takes its parts into locals, lends them, and builds the
+// step once.
 mod checks;
 mod events;
 mod line;
@@ -15,13 +16,23 @@ mod table;
 mod waking;
 
 pub use events::create::create;
+pub use events::create::create_on;
 pub use events::exit::exit;
+pub use events::exit::exit_on;
 pub use events::operate::operate;
+pub use events::operate::operate_on;
 pub use events::query::query;
+pub use events::query::query_on;
 pub use events::remove::remove;
+pub use events::remove::remove_on;
 pub use events::set_value::set_value;
+pub use events::set_value::set_value_on;
 pub use events::signal::signal;
+pub use events::signal::signal_on;
+pub use events::step;
 use model::Line;
+use model::SETS;
+use model::Set;
 use model::Wakings;
 
 // What a waking returns beside what is lent to it: the queue after it, the looks so far, and whom it woke.
@@ -31,8 +42,10 @@ pub struct Woken {
     pub wakings: Wakings,
 }
 
-// What an event that may wake returns beside what is lent to it.
+// What an event returns beside what is lent to it: the sets after it, its answer, and what the waking returns.
 pub struct Told {
+    pub sets: [Set; SETS],
     pub code: i32,
+    pub value: u32,
     pub woken: Woken,
 }

@@ -6,6 +6,8 @@ use crate::Woken;
 use crate::line::no_wakings;
 use judging::answer;
 use model::Line;
+use model::SETS;
+use model::Set;
 
 // Nobody was looked at or woken.
 pub fn unwoken(line: Line) -> Woken
@@ -18,12 +20,14 @@ pub fn unwoken(line: Line) -> Woken
     }
 }
 
-// The code of the check that applies, and the line as it was.
-pub fn refused(check: u8, line: Line) -> Told
-    ensures { λ r. ⌜ r ≡ refusedWith check line ⌝ }
+// The code of the check that applies; the sets and the line are as they were.
+pub fn refused(check: u8, sets: [Set; SETS], line: Line) -> Told
+    ensures { λ r. ⌜ r ≡ refusedWith check sets line ⌝ }
 {
     Told {
+        sets: sets,
         code: answer(check),
+        value: 0,
         woken: unwoken(line),
     }
 }

@@ -23,7 +23,7 @@ use model::Set;
 use model::Step;
 
 // A sleeper of the process goes without a waking; all sets are adjusted first, then treated.
-fn exit_on(
+pub fn exit_on(
     engine: Engine,
     sets: [Set; SETS],
     values: &mut [u16; ALL_SEMAPHORES],
@@ -34,11 +34,11 @@ fn exit_on(
     process: u8,
 ) -> Told
     requires { ⌜ Held (hostWith sets (now values) (now lasts) (now adjustments) (now arrays) line) ⌝ }
-    ensures { λ r. ⌜ stepWith sets (now (values .exit)) (now (lasts .exit)) (now (adjustments .exit)) (now (arrays .exit)) r ≡ stepOf (doExit (waker engine) (stateOf (hostWith sets (now (values .entry)) (now (lasts .entry)) (now (adjustments .entry)) (now (arrays .entry)) line)) process) ⌝ }
+    ensures { λ r. ⌜ stepWith (now (values .exit)) (now (lasts .exit)) (now (adjustments .exit)) (now (arrays .exit)) r ≡ stepOf (doExit (waker engine) (stateOf (hostWith sets (now (values .entry)) (now (lasts .entry)) (now (adjustments .entry)) (now (arrays .entry)) line)) process) ⌝ }
 {
     let check = check_process(process);
     if check != 0 {
-        return refused(check, line);
+        return refused(check, sets, line);
     }
     let before = *values;
     let rest = leave(line, &mut *arrays, process);
@@ -55,7 +55,9 @@ fn exit_on(
         unwoken(rest),
     );
     Told {
+        sets: sets,
         code: 0,
+        value: 0,
         woken: woken,
     }
 }
@@ -80,5 +82,5 @@ pub fn exit(engine: Engine, h: Host, process: u8) -> Step
         line,
         process,
     );
-    step(sets, values, lasts, adjustments, arrays, told)
+    step(values, lasts, adjustments, arrays, told)
 }

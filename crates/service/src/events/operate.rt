@@ -76,7 +76,7 @@ fn complete(
 }
 
 // The array is judged on a copy: done, it is completed; else it sleeps, or is refused.
-fn operate_on(
+pub fn operate_on(
     engine: Engine,
     sets: [Set; SETS],
     values: &mut [u16; ALL_SEMAPHORES],
@@ -89,11 +89,11 @@ fn operate_on(
     bytes: &[u8],
 ) -> Told
     requires { ⌜ Held (hostWith sets (now values) (now lasts) (now adjustments) (now arrays) line) ⌝ }
-    ensures { λ r. ⌜ stepWith sets (now (values .exit)) (now (lasts .exit)) (now (adjustments .exit)) (now (arrays .exit)) r ≡ stepOf (doOperate (waker engine) (stateOf (hostWith sets (now (values .entry)) (now (lasts .entry)) (now (adjustments .entry)) (now (arrays .entry)) line)) process identifier (now (bytes .entry))) ⌝ }
+    ensures { λ r. ⌜ stepWith (now (values .exit)) (now (lasts .exit)) (now (adjustments .exit)) (now (arrays .exit)) r ≡ stepOf (doOperate (waker engine) (stateOf (hostWith sets (now (values .entry)) (now (lasts .entry)) (now (adjustments .entry)) (now (arrays .entry)) line)) process identifier (now (bytes .entry))) ⌝ }
 {
     let check = check_operate(sets, line, process, identifier, bytes);
     if check != 0 {
-        return refused(check, line);
+        return refused(check, sets, line);
     }
     let slot = slot_of(identifier);
     let judged = judge_at(&*values, &*adjustments, process, slot, bytes);
@@ -122,7 +122,9 @@ fn operate_on(
         _ => {}
     }
     Told {
+        sets: sets,
         code: code_of(outcome),
+        value: 0,
         woken: woken,
     }
 }
@@ -149,5 +151,5 @@ pub fn operate(engine: Engine, h: Host, process: u8, identifier: i32, bytes: &[u
         identifier,
         bytes,
     );
-    step(sets, values, lasts, adjustments, arrays, told)
+    step(values, lasts, adjustments, arrays, told)
 }

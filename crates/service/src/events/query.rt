@@ -4,6 +4,7 @@ ghost use lib.IntN.{pos};
 ghost use Rattle.model.specs.Events.{answer as answerOf, doQuery};
 ghost use Rattle.model.specs.Layout.{Held, stateOf, queueOf, sleeperAt, queriedOf};
 ghost use Rattle.service.specs.Parts.{IsArrays, Placed};
+ghost use Rattle.service.specs.Told.{hostWith};
 ghost use Rattle.service.specs.Query.{Seated, Waits, Waiting, lookTable};
 use crate::checks::check_number;
 use crate::waking::bit_of;
@@ -23,6 +24,8 @@ use model::OPERATION_BYTES;
 use model::Place;
 use model::Queried;
 use model::SEMAPHORES;
+use model::SETS;
+use model::Set;
 
 // Those who wait at a semaphore, as masks of processes: for an increase, and for zero.
 pub struct Waiters {
@@ -119,32 +122,55 @@ fn refused(code: u8) -> Queried
 }
 
 // A wait count is the number of ones in its mask.
-pub fn query(h: Host, identifier: i32, number: u16) -> Queried
-    requires { ⌜ Held h ⌝ }
-    ensures { λ r. ⌜ r ≡ queriedOf (doQuery (stateOf h) identifier number .answer) ⌝ }
+pub fn query_on(
+    sets: [Set; SETS],
+    values: &[u16; ALL_SEMAPHORES],
+    lasts: &[u8; ALL_SEMAPHORES],
+    adjustments: &[i16; ALL_ADJUSTMENTS],
+    arrays: &[u8],
+    line: Line,
+    identifier: i32,
+    number: u16,
+) -> Queried
+    requires { ⌜ Held (hostWith sets (now values) (now lasts) (now adjustments) (now arrays) line) ⌝ }
+    ensures { λ r. ⌜ r ≡ queriedOf (doQuery (stateOf (hostWith sets (now (values .entry)) (now (lasts .entry)) (now (adjustments .entry)) (now (arrays .entry)) line)) identifier number .answer) ⌝ }
 {
-    let sets = h.sets;
-    let values = h.values;
-    let lasts = h.lasts;
-    let adjustments = h.adjustments;
-    let line = h.line;
-    let arrays = h.arrays;
     let code = check_number(sets, identifier, number);
     if code != 0 {
         return refused(code);
     }
     let slot = slot_of(identifier);
     let at = slot * SEMAPHORES + (number as usize);
-    let value = values[at];
-    let last = lasts[at];
-    let w = all_waiters(&values, &adjustments, &arrays, line, slot, number);
+    let w = all_waiters(values, adjustments, arrays, line, slot, number);
     Queried {
         code: 0,
-        value: value,
-        last: last,
+        value: values[at],
+        last: lasts[at],
         increase: u8::count_ones(w.increase),
         zero: u8::count_ones(w.zero),
         increase_mask: w.increase,
         zero_mask: w.zero,
     }
+}
+
+pub fn query(h: Host, identifier: i32, number: u16) -> Queried
+    requires { ⌜ Held h ⌝ }
+    ensures { λ r. ⌜ r ≡ queriedOf (doQuery (stateOf h) identifier number .answer) ⌝ }
+{
+    let sets = h.sets;
+    let line = h.line;
+    let values = h.values;
+    let lasts = h.lasts;
+    let adjustments = h.adjustments;
+    let arrays = h.arrays;
+    query_on(
+        sets,
+        &values,
+        &lasts,
+        &adjustments,
+        &arrays,
+        line,
+        identifier,
+        number,
+    )
 }

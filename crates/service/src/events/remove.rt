@@ -4,6 +4,7 @@ ghost use Prim.Native.Nat.{_+_, _%_};
 ghost use Rattle.model.specs.State.{freeSet};
 ghost use Rattle.model.specs.Events.{doRemove};
 ghost use Rattle.model.specs.Layout.{Held, stateOf, stepOf};
+ghost use Rattle.service.specs.Told.{hostWith, stepWith};
 use crate::Told;
 use crate::checks::check_remove;
 use crate::events::step;
@@ -12,7 +13,11 @@ use crate::quiet::unwoken;
 use crate::table::clear_slot;
 use judging::answer;
 use judging::slot_of;
+use model::ALL_ADJUSTMENTS;
+use model::ALL_SEMAPHORES;
 use model::Host;
+use model::Line;
+use model::SETS;
 use model::Set;
 use model::Step;
 use std::num::wrapping_add_u16;
@@ -30,28 +35,54 @@ fn freed(set: Set) -> Set
 }
 
 // All of the slot goes to 0 but its generation.
-pub fn remove(h: Host, identifier: i32) -> Step
-    requires { ⌜ Held h ⌝ }
-    ensures { λ r. ⌜ r ≡ stepOf (doRemove (stateOf h) identifier) ⌝ }
+pub fn remove_on(
+    sets: [Set; SETS],
+    values: &mut [u16; ALL_SEMAPHORES],
+    lasts: &mut [u8; ALL_SEMAPHORES],
+    adjustments: &mut [i16; ALL_ADJUSTMENTS],
+    arrays: &mut [u8],
+    line: Line,
+    identifier: i32,
+) -> Told
+    requires { ⌜ Held (hostWith sets (now values) (now lasts) (now adjustments) (now arrays) line) ⌝ }
+    ensures { λ r. ⌜ stepWith (now (values .exit)) (now (lasts .exit)) (now (adjustments .exit)) (now (arrays .exit)) r ≡ stepOf (doRemove (stateOf (hostWith sets (now (values .entry)) (now (lasts .entry)) (now (adjustments .entry)) (now (arrays .entry)) line)) identifier) ⌝ }
 {
-    let mut sets = h.sets;
-    let mut values = h.values;
-    let mut lasts = h.lasts;
-    let mut adjustments = h.adjustments;
-    let line = h.line;
-    let mut arrays = h.arrays;
+    let mut after = sets;
     let mut woken = unwoken(line);
     let code = check_remove(sets, identifier);
     if code == 0 {
         let slot = slot_of(identifier);
         let set = sets[slot];
-        sets[slot] = freed(set);
-        clear_slot(&mut values, &mut lasts, &mut adjustments, slot);
-        woken = remove_set(line, &mut arrays, slot);
+        after[slot] = freed(set);
+        clear_slot(values, lasts, adjustments, slot);
+        woken = remove_set(line, arrays, slot);
     }
-    let told = Told {
+    Told {
+        sets: after,
         code: answer(code),
+        value: 0,
         woken: woken,
-    };
-    step(sets, values, lasts, adjustments, arrays, told)
+    }
+}
+
+pub fn remove(h: Host, identifier: i32) -> Step
+    requires { ⌜ Held h ⌝ }
+    ensures { λ r. ⌜ r ≡ stepOf (doRemove (stateOf h) identifier) ⌝ }
+{
+    let sets = h.sets;
+    let line = h.line;
+    let mut values = h.values;
+    let mut lasts = h.lasts;
+    let mut adjustments = h.adjustments;
+    let mut arrays = h.arrays;
+    let told = remove_on(
+        sets,
+        &mut values,
+        &mut lasts,
+        &mut adjustments,
+        &mut arrays,
+        line,
+        identifier,
+    );
+    step(values, lasts, adjustments, arrays, told)
 }

@@ -23,7 +23,7 @@ use model::Set;
 use model::Step;
 
 // The named semaphore is always touched, whatever its value was: cleared adjustments can change an outcome.
-fn set_value_on(
+pub fn set_value_on(
     engine: Engine,
     sets: [Set; SETS],
     values: &mut [u16; ALL_SEMAPHORES],
@@ -36,11 +36,11 @@ fn set_value_on(
     value: i32,
 ) -> Told
     requires { ⌜ Held (hostWith sets (now values) (now lasts) (now adjustments) (now arrays) line) ⌝ }
-    ensures { λ r. ⌜ stepWith sets (now (values .exit)) (now (lasts .exit)) (now (adjustments .exit)) (now (arrays .exit)) r ≡ stepOf (doSetValue (waker engine) (stateOf (hostWith sets (now (values .entry)) (now (lasts .entry)) (now (adjustments .entry)) (now (arrays .entry)) line)) identifier number value) ⌝ }
+    ensures { λ r. ⌜ stepWith (now (values .exit)) (now (lasts .exit)) (now (adjustments .exit)) (now (arrays .exit)) r ≡ stepOf (doSetValue (waker engine) (stateOf (hostWith sets (now (values .entry)) (now (lasts .entry)) (now (adjustments .entry)) (now (arrays .entry)) line)) identifier number value) ⌝ }
 {
     let check = check_set_value(sets, identifier, number, value);
     if check != 0 {
-        return refused(check, line);
+        return refused(check, sets, line);
     }
     let slot = slot_of(identifier);
     let at = number as usize;
@@ -57,7 +57,9 @@ fn set_value_on(
         unwoken(line),
     );
     Told {
+        sets: sets,
         code: 0,
+        value: 0,
         woken: woken,
     }
 }
@@ -84,5 +86,5 @@ pub fn set_value(engine: Engine, h: Host, identifier: i32, number: u16, value: i
         number,
         value,
     );
-    step(sets, values, lasts, adjustments, arrays, told)
+    step(values, lasts, adjustments, arrays, told)
 }

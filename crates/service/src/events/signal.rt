@@ -5,6 +5,7 @@ ghost use Rattle.model.specs.Events.{keep, isOf, endedWith, doSignal};
 ghost use Rattle.model.specs.Layout.{Held, stateOf, stepOf, queueOf, wakingsOf};
 ghost use Rattle.model.proofs.QueueLaws.{notOf};
 ghost use Rattle.service.specs.Line.{Holds, Lined};
+ghost use Rattle.service.specs.Told.{hostWith, stepWith};
 use crate::Told;
 use crate::Woken;
 use crate::checks::check_process;
@@ -15,8 +16,12 @@ use crate::line::no_wakings;
 use crate::line::note;
 use crate::quiet::unwoken;
 use judging::answer;
+use model::ALL_ADJUSTMENTS;
+use model::ALL_SEMAPHORES;
 use model::Host;
 use model::Line;
+use model::SETS;
+use model::Set;
 use model::Step;
 
 // Ends the sleeper of `process` with 4 and takes it out. If it is awake, nothing changes.
@@ -36,24 +41,49 @@ fn interrupt(line: Line, arrays: &mut [u8], process: u8) -> Woken
     }
 }
 
+pub fn signal_on(
+    sets: [Set; SETS],
+    values: &mut [u16; ALL_SEMAPHORES],
+    lasts: &mut [u8; ALL_SEMAPHORES],
+    adjustments: &mut [i16; ALL_ADJUSTMENTS],
+    arrays: &mut [u8],
+    line: Line,
+    process: u8,
+) -> Told
+    requires { ⌜ Held (hostWith sets (now values) (now lasts) (now adjustments) (now arrays) line) ⌝ }
+    ensures { λ r. ⌜ stepWith (now (values .exit)) (now (lasts .exit)) (now (adjustments .exit)) (now (arrays .exit)) r ≡ stepOf (doSignal (stateOf (hostWith sets (now (values .entry)) (now (lasts .entry)) (now (adjustments .entry)) (now (arrays .entry)) line)) process) ⌝ }
+{
+    let mut woken = unwoken(line);
+    let code = check_process(process);
+    if code == 0 {
+        woken = interrupt(line, arrays, process);
+    }
+    Told {
+        sets: sets,
+        code: answer(code),
+        value: 0,
+        woken: woken,
+    }
+}
+
 pub fn signal(h: Host, process: u8) -> Step
     requires { ⌜ Held h ⌝ }
     ensures { λ r. ⌜ r ≡ stepOf (doSignal (stateOf h) process) ⌝ }
 {
     let sets = h.sets;
-    let values = h.values;
-    let lasts = h.lasts;
-    let adjustments = h.adjustments;
     let line = h.line;
+    let mut values = h.values;
+    let mut lasts = h.lasts;
+    let mut adjustments = h.adjustments;
     let mut arrays = h.arrays;
-    let mut woken = unwoken(line);
-    let code = check_process(process);
-    if code == 0 {
-        woken = interrupt(line, &mut arrays, process);
-    }
-    let told = Told {
-        code: answer(code),
-        woken: woken,
-    };
-    step(sets, values, lasts, adjustments, arrays, told)
+    let told = signal_on(
+        sets,
+        &mut values,
+        &mut lasts,
+        &mut adjustments,
+        &mut arrays,
+        line,
+        process,
+    );
+    step(values, lasts, adjustments, arrays, told)
 }

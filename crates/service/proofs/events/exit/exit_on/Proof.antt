@@ -75,7 +75,7 @@ returns-2 c =
     let t = n .before .before .before .before .before in
     let u = t .before .before .before in
     let s = start u in
-    exit-told (host s) (s .pre) _ (none (of-leave (of-undo u))) (of-undo u .leave .ensures) (u .undo-all .ensures (now (s .args .lasts))) (s .args .engine) _
+    exit-told (host s) (s .pre) _ (none (of-leave (of-undo u))) (of-undo u .leave .ensures) (u .undo-all .ensures (now (s .args .lasts))) (s .args .engine) _ _
     (t .touched-by-exit .ensures (now (s .args .lasts)) (now (s .args .lasts)) (now (s .args .adjustments)) (u .undo-all .last .1 .0) ∙ ap (touchedFrom slots 0 _) (u .undo-all .ensures (now (s .args .lasts)))) refl
     (rw (n .unwoken .ensures) at (c .before .before .wake-all .ensures))
 

@@ -13,7 +13,7 @@ use Rattle.model.specs.Waking.{waker}
 use Rattle.model.specs.Events.{call, doOperate}
 use Rattle.model.specs.Layout.{stateOf, stepOf}
 use Rattle.service.specs.Table.{IsSlot}
-use Rattle.service.specs.Told.{hostWith, stepWith}
+use Rattle.service.specs.Told.{hostWith, stepWith, telling}
 use Rattle.service.proofs.EventLaws.{held-line, held-few, held-bytes}
 use Rattle.service.proofs.ToldLaws.{told-refused}
 use Rattle.service.proofs.OperatingLaws.{call-fits, call-process, call-numbered, call-room, call-judged, done-ready, done-told, sleep-told, judged-told}
@@ -56,17 +56,17 @@ looked c = let s = of-slot (of-judge c) in call-judged (host s) (s .pre) _ _ _ (
 
 tells : (m : tie.At-match-came) (code : ℤ) → code ≡ codeOf (m .before .before .judge-at .result .outcome)
     → let s = of-slot (of-judge (m .before .before)) in
-    stepWith (s .args .sets) (m .match .values) (m .match .lasts) (m .match .adjustments) (m .match .arrays) (record { code = code; woken = m .match .woken })
+    stepWith (m .match .values) (m .match .lasts) (m .match .adjustments) (m .match .arrays) (telling (s .args .sets) code (m .match .woken))
     ≡ stepOf (doOperate (waker (s .args .engine)) (stateOf (host s)) (s .args .process) (s .args .identifier) (now (s .args .bytes)))
 tells m code e =
     let j = m .before .before in
     let o = of-judge j in
     let s = of-slot o in
     ⊎-elim
-    (λ v. rw (v .10, v .11, v .12, v .13, v .14) (done-told (host s) (s .pre) _ _ _ (none (o .before)) (s .args .engine) _ (looked j) _ (v .1 .given .1) (slot o) e (v .7 .ensures)))
+    (λ v. rw (v .10, v .11, v .12, v .13, v .14) (done-told (host s) (s .pre) _ _ _ (none (o .before)) (s .args .engine) _ (looked j) _ _ (v .1 .given .1) (slot o) e (v .7 .ensures)))
     (⊎-elim
-    (λ v. rw (v .7, v .8, v .9, v .10, v .11) (sleep-told (host s) (s .pre) _ _ _ (none (o .before)) (s .args .engine) _ (looked j) _ (v .1 .given .1) (slot o) e (v .6 .ensures ∙ rw (v .3 .ensures .0)) (v .3 .ensures .1)))
-    (λ v. rw (v .1, v .2, v .3, v .4, v .5) (judged-told (host s) (s .pre) _ _ _ (none (o .before)) (s .args .engine) _ (looked j) _ (v .0 .keys3) e (m .before .unwoken .ensures))))
+    (λ v. rw (v .7, v .8, v .9, v .10, v .11) (sleep-told (host s) (s .pre) _ _ _ (none (o .before)) (s .args .engine) _ (looked j) _ _ (v .1 .given .1) (slot o) e (v .6 .ensures ∙ rw (v .3 .ensures .0)) (v .3 .ensures .1)))
+    (λ v. rw (v .1, v .2, v .3, v .4, v .5) (judged-told (host s) (s .pre) _ _ _ (none (o .before)) (s .args .engine) _ (looked j) _ _ (v .0 .keys3) e (m .before .unwoken .ensures))))
     (m .match .came)
 
 -- ---- the needs

@@ -98,7 +98,7 @@ returns-2 c =
     let a = u .before .before .before .before .before in
     let o = a .before .before .before .before in
     let s = start (o .before) in
-    set-told (host s) (s .pre) _ _ _ (none (o .before)) (table a) (s .args .engine) _ (slot o) (bit-of (s .args .number) (number-fits o)) refl (rw (u .unwoken .ensures) at (c .before .before .wake .ensures))
+    set-told (host s) (s .pre) _ _ _ (none (o .before)) (table a) (s .args .engine) _ _ (slot o) (bit-of (s .args .number) (number-fits o)) refl (rw (u .unwoken .ensures) at (c .before .before .wake .ensures))
 
 pub set-value-on-spec : {M : Type 1} → statement M
 set-value-on-spec =
