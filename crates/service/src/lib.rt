@@ -6,8 +6,8 @@
 // are handed.
 //
 // Each event has a second form, `_on` the parts of a host: a caller that runs many events lends the large arrays and
-// copies none of them. It does the work; the form on a whole host takes its parts into locals, lends them, and builds the
-// step once.
+// copies none of them. All are lent the same parts. It is this form that does the work; the one on a whole host takes its
+// parts into locals, lends them, and builds the step once.
 mod checks;
 mod events;
 mod line;
