@@ -26,6 +26,10 @@ pub record PutIn (most : ℕ) (out : List ℕ) (at : ℕ) (text after : List ℕ
 abbrev pub wakingBytes : ℕ
 wakingBytes = 23
 
+-- a position, a code and a value, with a blank between
+abbrev pub openingBytes : ℕ
+openingBytes = 43
+
 -- no line is longer
 abbrev pub lineBytes : ℕ
 lineBytes = 250

@@ -59,16 +59,19 @@ unfoldable pub wakingsText : List Waking → List ℕ
 wakingsText [] = []
 wakingsText (w ∷ ws) = wakingText (w .process) (w .code) ++ wakingsText ws
 
+-- position, code and value: what the line of any event begins with
+abbrev pub openingText : ℕ → ℤ → ℕ → List ℕ
+openingText position code value = digitsOf position ++ blank ∷ signedOf code ++ blank ∷ digitsOf value
+
 -- "position from 0, code, value, quick looks, and the wakings"
 unfoldable pub eventText : ℕ → ℤ → ℕ → ℕ → List Waking → List ℕ
 eventText position code value looks wakings =
-    digitsOf position ++ blank ∷ signedOf code ++ blank ∷ digitsOf value ++ blank ∷ digitsOf looks ++ wakingsText wakings ++ newline ∷ []
+    openingText position code value ++ blank ∷ digitsOf looks ++ wakingsText wakings ++ newline ∷ []
 
 -- "A query line is position, code, value, last process, for increase, for zero"
 unfoldable pub queryText : ℕ → ℤ → ℕ → ℕ → ℕ → ℕ → List ℕ
 queryText position code value last forIncrease forZero =
-    digitsOf position ++ blank ∷ signedOf code ++ blank ∷ digitsOf value ++ blank ∷ digitsOf last ++ blank ∷ digitsOf forIncrease ++ blank ∷ digitsOf forZero
-    ++ newline ∷ []
+    openingText position code value ++ blank ∷ digitsOf last ++ blank ∷ digitsOf forIncrease ++ blank ∷ digitsOf forZero ++ newline ∷ []
 
 abbrev pub eventLine : ℕ → Result → List ℕ
 eventLine position r = eventText position (r .answer .code) (r .answer .value) (r .looks) (r .wakings)

@@ -9,8 +9,8 @@ ghost use lib.Dec.{leb};
 ghost use lib.ListN.{length, take};
 ghost use lib.IntN.{natAbs};
 ghost use Rattle.model.specs.Limits.{processes};
-ghost use Rattle.lines.specs.Text.{newline, digitsOf, signedOf, wordLine, headLine, badLine, wakingText, wakingsText, eventText, queryText};
-ghost use Rattle.lines.specs.Buffer.{Put, PutIn, putLine, lineBytes, wakingBytes};
+ghost use Rattle.lines.specs.Text.{newline, digitsOf, signedOf, wordLine, headLine, badLine, wakingText, wakingsText, openingText, eventText, queryText};
+ghost use Rattle.lines.specs.Buffer.{Put, PutIn, putLine, lineBytes, wakingBytes, openingBytes};
 use model::Queried;
 use model::Waking;
 use model::Wakings;
@@ -182,6 +182,16 @@ pub fn bad_line(out: &mut [u8], at: usize, code: u16) -> usize
     worded(out, at, b"bad", code as usize)
 }
 
+// What the line of any event begins with.
+fn opening(out: &mut [u8], at: usize, position: usize, code: i32, value: u32) -> usize
+    requires { ⌜ at + openingBytes ≤ length (now out) ⌝ }
+    ensures { λ r. ⌜ PutIn openingBytes (now (out .entry)) at (openingText position code value) (now (out .exit)) r ⌝ }
+{
+    let a = number(out, at, position);
+    let b = signed(out, a, BLANK, code);
+    marked(out, b, BLANK, value as usize)
+}
+
 // The numbers of an event's line, and its wakings.
 fn evented(
     out: &mut [u8],
@@ -195,14 +205,12 @@ fn evented(
     requires { ⌜ at + lineBytes ≤ length (now out) ⌝ }
     ensures { λ r. ⌜ PutIn lineBytes (now (out .entry)) at (eventText position code value looks (take (w .count) (w .list))) (now (out .exit)) r ⌝ }
 {
-    let a = number(out, at, position);
-    let b = signed(out, a, BLANK, code);
-    let c = marked(out, b, BLANK, value as usize);
-    let d = marked(out, c, BLANK, looks);
+    let a = opening(out, at, position, code, value);
+    let b = marked(out, a, BLANK, looks);
     let count = w.count;
     let list = w.list;
-    let e = woken(out, d, count, list);
-    ended(out, e)
+    let c = woken(out, b, count, list);
+    ended(out, c)
 }
 
 // The line of any event but a query. Of the wakings the first `count` are written, and no more than there are.
@@ -238,13 +246,11 @@ fn queried(
     requires { ⌜ at + lineBytes ≤ length (now out) ⌝ }
     ensures { λ r. ⌜ PutIn lineBytes (now (out .entry)) at (queryText position code value last increase zero) (now (out .exit)) r ⌝ }
 {
-    let a = number(out, at, position);
-    let b = signed(out, a, BLANK, code);
-    let c = marked(out, b, BLANK, value as usize);
-    let d = marked(out, c, BLANK, last as usize);
-    let e = marked(out, d, BLANK, increase as usize);
-    let f = marked(out, e, BLANK, zero as usize);
-    ended(out, f)
+    let a = opening(out, at, position, code, value as u32);
+    let b = marked(out, a, BLANK, last as usize);
+    let c = marked(out, b, BLANK, increase as usize);
+    let d = marked(out, c, BLANK, zero as usize);
+    ended(out, d)
 }
 
 // The line of a query.

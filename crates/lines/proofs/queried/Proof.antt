@@ -2,13 +2,12 @@
 use Prim.Native.Nat.{ℕ}
 use mathlib.Core.List.{List, _∷_, _++_}
 use native.Mathlib.Omega.{arith}
-use mir.Syntax.{w8, w16, w32, w64}
+use mir.Syntax.{w8, w32}
 use mir.Facts.{toZ-ofZ}
 use borrow.Author.Needs.{needs}
-use Rattle.lines.specs.Text.{blank, digitsOf, signedOf, queryText}
-use Rattle.lines.specs.Buffer.{PutIn}
+use Rattle.lines.specs.Text.{blank, digitsOf, openingText, queryText}
+use Rattle.lines.specs.Buffer.{PutIn, openingBytes}
 use Rattle.lines.proofs.Digits.{digits-fit}
-use Rattle.lines.proofs.Signs.{signed-short}
 use Rattle.lines.proofs.Writing.{also, room-left, at-most, put-length}
 use Rattle.lines.proofs.queried.Statement.{statement}
 use Rattle.lines.proofs.queried.Tie as tie
@@ -17,59 +16,41 @@ use Rattle.lines.proofs.queried.Tie as tie
 abbrev Far : ℕ → tie.Start → List ℕ → List ℕ → ℕ → Type 0
 Far most s text after next = PutIn most (s .args .out .now) (s .args .at) text after next
 
-abbrev of-position : tie.After-number → tie.Start
-of-position c = c .before .before .before
+abbrev of-opening : tie.After-opening → tie.Start
+of-opening c = c .before .before .before
 
-number-requires : tie.Need-number-requires
-number-requires c κs = let s = c .before .before in omega (arith, digits-fit w64 19 tt (s .fits .position))
+opening-requires : tie.Need-opening-requires
+opening-requires c κs = search needs
 
-position-put : (c : tie.After-number) → let s = of-position c in Far 20 s (digitsOf (s .args .position)) (c .number .last .0) (c .number .result)
-position-put c = let s = of-position c in record { put = c .number .ensures; short = omega (arith, digits-fit w64 19 tt (s .fits .position)) }
+opening-put : (c : tie.After-opening) → let s = of-opening c in Far openingBytes s (openingText (s .args .position) (s .args .code) (s .args .value)) (c .opening .last .0) (c .opening .result)
+opening-put c = rw (toZ-ofZ (of-opening c .fits .code)) at (c .opening .ensures)
 
-abbrev of-code : tie.After-signed → tie.Start
-of-code c = of-position (c .before .before .before .before)
-
-signed-requires : tie.Need-signed-requires
-signed-requires c κs = let s = of-position (c .before .before .before) in rw (toZ-ofZ (s .fits .code)) (omega (arith, room-left 12 (position-put (c .before .before .before)) (search needs), signed-short (s .args .code) (s .fits .code)))
-
-code-put : (c : tie.After-signed) → let s = of-code c in Far 32 s (digitsOf (s .args .position) ++ blank ∷ signedOf (s .args .code)) (c .signed .last .0) (c .signed .result)
-code-put c = let s = of-code c in also 12 (position-put (c .before .before .before .before)) (rw (toZ-ofZ (s .fits .code)) at (c .signed .ensures)) (omega (arith, signed-short (s .args .code) (s .fits .code)))
-
-abbrev of-value : tie.After-marked → tie.Start
-of-value c = of-code (c .before .before .before .before)
+abbrev of-last : tie.After-marked → tie.Start
+of-last c = of-opening (c .before .before .before .before)
 
 marked-requires : tie.Need-marked-requires
-marked-requires c κs = let s = of-code (c .before .before .before) in omega (arith, room-left 6 (code-put (c .before .before .before)) (search needs), digits-fit w16 4 tt (s .fits .value))
+marked-requires c κs = let s = of-opening (c .before .before .before) in omega (arith, room-left 4 (opening-put (c .before .before .before)) (search needs), digits-fit w8 2 tt (s .fits .last))
 
-value-put : (c : tie.After-marked) → let s = of-value c in Far 38 s (digitsOf (s .args .position) ++ blank ∷ signedOf (s .args .code) ++ blank ∷ digitsOf (s .args .value)) (c .marked .last .0) (c .marked .result)
-value-put c = let s = of-value c in also 6 (code-put (c .before .before .before .before)) (c .marked .ensures) (omega (arith, digits-fit w16 4 tt (s .fits .value)))
+last-put : (c : tie.After-marked) → let s = of-last c in Far 47 s (openingText (s .args .position) (s .args .code) (s .args .value) ++ blank ∷ digitsOf (s .args .last)) (c .marked .last .0) (c .marked .result)
+last-put c = let s = of-last c in also 4 (opening-put (c .before .before .before .before)) (c .marked .ensures) (omega (arith, digits-fit w8 2 tt (s .fits .last)))
 
-abbrev of-last : tie.After-marked2 → tie.Start
-of-last c = of-value (c .before .before .before .before)
-
-marked-requires-2 : tie.Need-marked-requires-2
-marked-requires-2 c κs = let s = of-value (c .before .before .before) in omega (arith, room-left 4 (value-put (c .before .before .before)) (search needs), digits-fit w8 2 tt (s .fits .last))
-
-last-put : (c : tie.After-marked2) → let s = of-last c in Far 42 s (digitsOf (s .args .position) ++ blank ∷ signedOf (s .args .code) ++ blank ∷ digitsOf (s .args .value) ++ blank ∷ digitsOf (s .args .last)) (c .marked2 .last .0) (c .marked2 .result)
-last-put c = let s = of-last c in also 4 (value-put (c .before .before .before .before)) (c .marked2 .ensures) (omega (arith, digits-fit w8 2 tt (s .fits .last)))
-
-abbrev of-increase : tie.After-marked3 → tie.Start
+abbrev of-increase : tie.After-marked2 → tie.Start
 of-increase c = of-last (c .before .before .before .before)
 
-marked-requires-3 : tie.Need-marked-requires-3
-marked-requires-3 c κs = let s = of-last (c .before .before .before) in omega (arith, room-left 11 (last-put (c .before .before .before)) (search needs), digits-fit w32 9 tt (s .fits .increase))
+marked-requires-2 : tie.Need-marked-requires-2
+marked-requires-2 c κs = let s = of-last (c .before .before .before) in omega (arith, room-left 11 (last-put (c .before .before .before)) (search needs), digits-fit w32 9 tt (s .fits .increase))
 
-increase-put : (c : tie.After-marked3) → let s = of-increase c in Far 53 s (digitsOf (s .args .position) ++ blank ∷ signedOf (s .args .code) ++ blank ∷ digitsOf (s .args .value) ++ blank ∷ digitsOf (s .args .last) ++ blank ∷ digitsOf (s .args .increase)) (c .marked3 .last .0) (c .marked3 .result)
-increase-put c = let s = of-increase c in also 11 (last-put (c .before .before .before .before)) (c .marked3 .ensures) (omega (arith, digits-fit w32 9 tt (s .fits .increase)))
+increase-put : (c : tie.After-marked2) → let s = of-increase c in Far 58 s (openingText (s .args .position) (s .args .code) (s .args .value) ++ blank ∷ digitsOf (s .args .last) ++ blank ∷ digitsOf (s .args .increase)) (c .marked2 .last .0) (c .marked2 .result)
+increase-put c = let s = of-increase c in also 11 (last-put (c .before .before .before .before)) (c .marked2 .ensures) (omega (arith, digits-fit w32 9 tt (s .fits .increase)))
 
-abbrev of-zero : tie.After-marked4 → tie.Start
+abbrev of-zero : tie.After-marked3 → tie.Start
 of-zero c = of-increase (c .before .before .before .before)
 
-marked-requires-4 : tie.Need-marked-requires-4
-marked-requires-4 c κs = let s = of-increase (c .before .before .before) in omega (arith, room-left 11 (increase-put (c .before .before .before)) (search needs), digits-fit w32 9 tt (s .fits .zero))
+marked-requires-3 : tie.Need-marked-requires-3
+marked-requires-3 c κs = let s = of-increase (c .before .before .before) in omega (arith, room-left 11 (increase-put (c .before .before .before)) (search needs), digits-fit w32 9 tt (s .fits .zero))
 
-zero-put : (c : tie.After-marked4) → let s = of-zero c in Far 64 s (digitsOf (s .args .position) ++ blank ∷ signedOf (s .args .code) ++ blank ∷ digitsOf (s .args .value) ++ blank ∷ digitsOf (s .args .last) ++ blank ∷ digitsOf (s .args .increase) ++ blank ∷ digitsOf (s .args .zero)) (c .marked4 .last .0) (c .marked4 .result)
-zero-put c = let s = of-zero c in also 11 (increase-put (c .before .before .before .before)) (c .marked4 .ensures) (omega (arith, digits-fit w32 9 tt (s .fits .zero)))
+zero-put : (c : tie.After-marked3) → let s = of-zero c in Far 69 s (openingText (s .args .position) (s .args .code) (s .args .value) ++ blank ∷ digitsOf (s .args .last) ++ blank ∷ digitsOf (s .args .increase) ++ blank ∷ digitsOf (s .args .zero)) (c .marked3 .last .0) (c .marked3 .result)
+zero-put c = let s = of-zero c in also 11 (increase-put (c .before .before .before .before)) (c .marked3 .ensures) (omega (arith, digits-fit w32 9 tt (s .fits .zero)))
 
 ended-requires : tie.Need-ended-requires
 ended-requires c κs = room-left 1 (zero-put (c .before .before .before)) (search needs)
@@ -85,12 +66,10 @@ pub queried-spec : {M : Type 1} → statement M
 queried-spec =
     tie.close
     (tie.spec
-    number-requires
-    signed-requires
+    opening-requires
     marked-requires
     marked-requires-2
     marked-requires-3
-    marked-requires-4
     ended-requires
     same-length
     returns)
