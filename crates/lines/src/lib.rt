@@ -160,15 +160,24 @@ fn worded(out: &mut [u8], at: usize, word: &[u8], n: usize) -> usize
     ended(out, b)
 }
 
-// The line before those of the events.
-pub fn head_line(out: &mut [u8], at: usize, n: usize) -> usize
-    ensures { λ r. ⌜ (r, now (out .exit)) ≡ putLine (now (out .entry)) at (headLine n) ⌝ }
+// A word and a number, where there is room for any line.
+fn word_line(out: &mut [u8], at: usize, word: &[u8], n: usize) -> usize
+    requires { ⌜ length (now word) ≤ 8 ⌝ }
+    ensures { λ r. ⌜ (r, now (out .exit)) ≡ putLine (now (out .entry)) at (wordLine (now (word .entry)) n) ⌝ }
     ensures { λ r. ⌜ r ≤ at + lineBytes ⌝ }
 {
     if !has_room(out.len(), at) {
         return at;
     }
-    worded(out, at, b"events", n)
+    worded(out, at, word, n)
+}
+
+// The line before those of the events.
+pub fn head_line(out: &mut [u8], at: usize, n: usize) -> usize
+    ensures { λ r. ⌜ (r, now (out .exit)) ≡ putLine (now (out .entry)) at (headLine n) ⌝ }
+    ensures { λ r. ⌜ r ≤ at + lineBytes ⌝ }
+{
+    word_line(out, at, b"events", n)
 }
 
 // The one line of a refused file.
@@ -176,10 +185,7 @@ pub fn bad_line(out: &mut [u8], at: usize, code: u16) -> usize
     ensures { λ r. ⌜ (r, now (out .exit)) ≡ putLine (now (out .entry)) at (badLine code) ⌝ }
     ensures { λ r. ⌜ r ≤ at + lineBytes ⌝ }
 {
-    if !has_room(out.len(), at) {
-        return at;
-    }
-    worded(out, at, b"bad", code as usize)
+    word_line(out, at, b"bad", code as usize)
 }
 
 // What the line of any event begins with.
