@@ -15,7 +15,7 @@ use Rattle.model.specs.declared.Queried.{Queried}
 use Rattle.model.specs.State.{State}
 use Rattle.model.specs.Checks.{checkNumber}
 use Rattle.model.specs.Waking.{waker}
-use Rattle.model.specs.Events.{Event, create, operate, setValue, remove, signal, exit, query, Result, checked, event, doCreate, doOperate, doSetValue, doRemove, doSignal, doExit, doQuery}
+use Rattle.model.specs.Events.{Event, Result, checked, event, doCreate, doOperate, doSetValue, doRemove, doSignal, doExit, doQuery}
 use Rattle.model.specs.Layout.{Held, hostOf, stateOf, stepOf, queriedOf}
 use Rattle.runfile.specs.Fields.{byteAt, halfAt, signedAt}
 use Rattle.runfile.specs.Body.{sizeAt, sizeOf, operationsAt, eventAt}

@@ -1,25 +1,17 @@
 -- The first line, and what is left behind it.
-use Prim.Native.Nat.{ℕ, _+_, _≤_}
-use mathlib.Core.Path.{_≡_, sym, ap, _∙_}
-use mathlib.Core.List.{List, _++_, append-nil}
-use native.Mathlib.Omega.{arith}
-use lib.ListN.{length, take}
-use borrow.Author.Tests.{le-leb}
-use Rattle.model.specs.declared.Engine.{Engine}
+use Prim.Native.Nat.{ℕ}
+use mathlib.Core.Path.{_≡_, _∙_}
+use mathlib.Core.List.{List}
 use Rattle.model.specs.declared.Host.{Host}
 use Rattle.model.specs.State.{freshState}
-use Rattle.model.specs.Runs.{start}
 use Rattle.model.specs.Layout.{hostOf}
-use Rattle.model.proofs.Held.{state-back}
 use Rattle.runfile.specs.Table.{tableEnd, countOf}
-use Rattle.runfile.specs.File.{fileOf, codeOfFile}
+use Rattle.runfile.specs.File.{codeOfFile}
 use Rattle.runfile.proofs.Walk.{good-events, bad-code}
 use Rattle.lines.specs.Text.{headLine, badLine}
-use Rattle.lines.specs.Buffer.{lineBytes, written, putLine}
-use Rattle.lines.proofs.Writing.{line-text}
-use Rattle.replaying.specs.declared.Wrote.{Wrote}
-use Rattle.replaying.specs.Replay.{firstLine, eventsIn, startOf, wrote, begun, textOfFile, replayed}
-use Rattle.replaying.proofs.Turns.{progress, length-events, start-bad, start-good, rest, rest-over}
+use Rattle.lines.specs.Buffer.{putLine}
+use Rattle.replaying.specs.Replay.{firstLine, wrote, begun}
+use Rattle.replaying.proofs.Turns.{progress, length-events, start-bad, start-good}
 
 module _ (file : List ℕ) (out : List ℕ) {host : Host} (h : host ≡ hostOf freshState) {out′ : List ℕ} {next : ℕ} where
   -- a refused file: its one line, and nothing is left

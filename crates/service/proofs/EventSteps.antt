@@ -9,7 +9,6 @@ use lib.IntN.{ℤ, pos}
 use borrow.Author.Tests.{ltb-true}
 use Rattle.model.specs.declared.Host.{Host}
 use Rattle.model.specs.declared.Set.{Set}
-use Rattle.model.specs.declared.Step.{Step}
 use Rattle.model.specs.declared.Line.{Line}
 use Rattle.model.specs.declared.Wakings.{Wakings}
 use Rattle.model.specs.Limits.{slots}

@@ -1,6 +1,6 @@
 -- Exit, once no check applies.
-use Prim.Native.Nat.{ℕ, _≤_, _<_}
-use mathlib.Core.Path.{_≡_, refl, sym, _∙_, ap}
+use Prim.Native.Nat.{ℕ}
+use mathlib.Core.Path.{_≡_, refl, _∙_, ap}
 use mathlib.Core.List.{List}
 use lib.ListN.{length}
 use lib.IntN.{ℤ, pos}
@@ -8,7 +8,7 @@ use Rattle.model.specs.declared.Engine.{Engine}
 use Rattle.model.specs.declared.Host.{Host}
 use Rattle.model.specs.declared.Line.{Line}
 use Rattle.model.specs.Limits.{slots}
-use Rattle.model.specs.State.{State, Table, Sleeper}
+use Rattle.model.specs.State.{Table}
 use Rattle.model.specs.Checks.{checkProcess}
 use Rattle.model.specs.Waking.{waker}
 use Rattle.model.specs.Events.{exited, keep, touchedFrom, doExit}

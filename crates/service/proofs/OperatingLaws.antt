@@ -16,20 +16,17 @@ use Rattle.model.specs.declared.Judged.{Judged}
 use Rattle.model.specs.declared.Line.{Line}
 use Rattle.model.specs.declared.Outcome.{Outcome}
 use Rattle.model.specs.declared.Outcome.the-variants.{Done, Sleep, Again, Range}
-use Rattle.model.specs.declared.Place.{Place}
-use Rattle.model.specs.declared.Step.{Step}
-use Rattle.model.specs.Limits.{slots, semaphores, processes, arrayBytes}
-use Rattle.model.specs.State.{State, Table, Sleeper, row, undoRow}
-use Rattle.model.specs.Operation.{operationsOf}
-use Rattle.model.specs.Judge.{judge, codeOf}
+use Rattle.model.specs.Limits.{semaphores, processes}
+use Rattle.model.specs.State.{Table, Sleeper, row}
+use Rattle.model.specs.Judge.{codeOf}
 use Rattle.model.specs.Look.{look, applied, valuesOf, adjustmentsOf}
-use Rattle.model.specs.Marks.{named, differing}
+use Rattle.model.specs.Marks.{differing}
 use Rattle.model.specs.Checks.{slotOf, checkOperate}
 use Rattle.model.specs.Waking.{waker}
-use Rattle.model.specs.Events.{Result, call, operated, doOperate, checked, refused}
-use Rattle.model.specs.Layout.{Held, stateOf, stepOf, tableOf, wakingsOf, placeOf, lineOf, arraysOf}
-use Rattle.model.specs.Runs.{All, none, also}
-use Rattle.model.proofs.Invariant.{Good, Fits, Distinct}
+use Rattle.model.specs.Events.{Result, call, operated, doOperate}
+use Rattle.model.specs.Layout.{Held, stateOf, stepOf, tableOf, placeOf, lineOf, arraysOf}
+use Rattle.model.specs.Runs.{none, also}
+use Rattle.model.proofs.Invariant.{Good, Fits}
 use Rattle.model.proofs.Lists.{all-append}
 use Rattle.model.proofs.CheckLaws.{Operable, operate-passes}
 use Rattle.model.proofs.QueueLaws.{distinct-snoc, fits-few}

@@ -1,12 +1,11 @@
 -- What parts that are ready hold: each sleeper at its place, with its array; and the parts of a world hold it.
-use Prim.Native.Nat.{ℕ, zero, suc, _+_, _*_, _-_, _≤_, _<_}
-use native.Mathlib.Nat.{not-suc-le-zero, le-of-suc-le-suc}
+use Prim.Native.Nat.{ℕ, _+_, _*_, _-_, _≤_, _<_}
 use native.Mathlib.Omega.{arith}
 use mathlib.Core.Path.{_≡_, refl, sym, _∙_, ap, subst}
-use mathlib.Core.List.{List, [], _∷_, _++_, map}
-use lib.ListN.{length, getD, set, take, drop, replicate, length-append}
+use mathlib.Core.List.{List, [], _∷_, _++_}
+use lib.ListN.{length, getD, take, replicate}
 use lib.IntN.{ℤ}
-use lib.Seq.{paste, take-at, length-take-le}
+use lib.Seq.{paste, take-at}
 use types.Run.{OneOf, miss}
 use denote.Enum.Declared.{tagOf}
 use Rattle.model.proofs.Outcome.{the-type}
@@ -20,18 +19,17 @@ use Rattle.model.specs.declared.Judged.{Judged}
 use Rattle.model.specs.declared.Copies.{Copies}
 use Rattle.model.specs.declared.Outcome.{Outcome}
 use Rattle.model.specs.declared.Outcome.the-variants.{Done, Sleep, Again, Range}
-use Rattle.model.specs.Limits.{slots, semaphores, processes, arrayBytes}
+use Rattle.model.specs.Limits.{semaphores, processes, arrayBytes}
 use Rattle.model.specs.State.{Table, Sleeper, noSleeper}
 use Rattle.model.specs.Judge.{codeOf}
 use Rattle.model.specs.Look.{look, after, valuesOf, adjustmentsOf}
 use Rattle.model.specs.Waking.{World, finish, without, waking}
 use Rattle.model.specs.Layout.{noPlace, placeOf, lineOf, arraysOf, wakingsOf, tableOf, queueOf, sleeperAt}
-use Rattle.model.specs.Runs.{All, none, also}
 use Rattle.model.proofs.Invariant.{Fits, countAt}
 use Rattle.model.proofs.Lists.{all-map, all-at}
 use Rattle.model.proofs.Calm.{Calm}
-use Rattle.model.proofs.LayoutLaws.{Queued, queued, length-arrays, length-places, place-at, array-at, line-without, arrays-without, wakings-joined, queue-back}
-use Rattle.service.specs.Table.{IsProcess, Numbered}
+use Rattle.model.proofs.LayoutLaws.{Queued, queued, length-arrays, place-at, array-at, line-without, arrays-without, wakings-joined, queue-back}
+use Rattle.service.specs.Table.{Numbered}
 use Rattle.service.specs.Line.{takenOut, noted}
 use Rattle.service.specs.Parts.{Parts, partsOf, worldOf, Ready, Placed, IsArrays, lookIn, left, finishedAt}
 

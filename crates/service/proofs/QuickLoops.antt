@@ -1,12 +1,11 @@
 -- The quick rule's loops: marks of places are marks of their sleepers, and what a round has shown at a position.
-use Prim.Native.Nat.{ℕ, zero, suc, _+_, _*_, _-_, _≤_, _<_}
+use Prim.Native.Nat.{ℕ, _+_, _-_, _≤_, _<_}
 use native.Mathlib.Omega.{arith}
 use mathlib.Core.Path.{_≡_, refl, sym, _∙_, ap, ap₂, subst}
-use mathlib.Core.Bool.{Bool, true, false, not, cond, _&&_}
+use mathlib.Core.Bool.{true, false, not}
 use mathlib.Core.List.{List, [], _∷_, map}
 use lib.Bits.{bitAnd, bitOr, bitXor}
 use lib.ListN.{length, getD, take, drop}
-use lib.Dec.{eqb}
 use lib.Seq.{slice-cons, slice-empty, slice, take-at}
 use lib.ListN.{length-map}
 use borrow.Author.Tests.{eq-eqb, ne-eqb}
@@ -16,16 +15,15 @@ use Rattle.model.specs.declared.Place.{Place}
 use Rattle.model.specs.declared.Line.{Line}
 use Rattle.model.specs.Limits.{semaphores, processes}
 use Rattle.model.specs.State.{Sleeper, noSleeper, row}
-use Rattle.model.specs.Operation.{hasBit}
 use Rattle.model.specs.Judge.{finishes}
-use Rattle.model.specs.Look.{look, valuesOf}
+use Rattle.model.specs.Look.{valuesOf}
 use Rattle.model.specs.Marks.{mine, marked, unmark, bitOf, maskOf, markTouched, differing}
-use Rattle.model.specs.Waking.{World, Round, nobody, finished, couldFinish, finish, quickRound, quick, remark}
+use Rattle.model.specs.Waking.{World, nobody, finished, finish, quickRound, remark}
 use Rattle.model.specs.Layout.{noPlace, placeOf, lineOf}
 use Rattle.model.proofs.LayoutLaws.{length-places}
 use Rattle.model.proofs.WakingLaws.{quick-end, quick-other, quick-unmarked, quick-sleeps, quick-finishes, quick-over, quick-again}
 use Rattle.service.specs.Parts.{Parts, Left, partsOf, worldOf, leftOf, Ready, lookIn, finishedAt, quickly, markPlaces, Peopled}
-use Rattle.service.proofs.PartsLaws.{asleep-all, asleep-few, the-line, the-place, the-placed, the-look, the-queued, world-back, parts-ready}
+use Rattle.service.proofs.PartsLaws.{asleep-all, asleep-few, the-line, the-place, the-placed, the-queued}
 use Rattle.service.proofs.WakingLoops.{Begun, Again, again, mine-here, other-here, ends-here, world-next, begun-next}
 
 -- ---- marks of places

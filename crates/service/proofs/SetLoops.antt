@@ -1,19 +1,18 @@
 -- A set is treated by an engine, and the live sets from slot 0 up.
-use Prim.Native.Nat.{ℕ, zero, suc, _+_, _*_, _-_, _≤_, _<_}
+use Prim.Native.Nat.{ℕ, _+_, _*_, _-_, _≤_, _<_}
 use native.Mathlib.Omega.{arith}
 use mathlib.Core.Path.{_≡_, refl, sym, _∙_, ap, subst}
 use mathlib.Core.Bool.{Bool, true, false}
 use mathlib.Core.List.{List, [], _∷_}
 use lib.ListN.{length, getD, take, drop, drop-of-length-le}
-use lib.Dec.{ltb}
-use borrow.Author.Tests.{lt-ltb, le-ltb, eq-eqb}
+use borrow.Author.Tests.{lt-ltb, le-ltb}
 use Rattle.model.specs.declared.Engine.{Engine}
 use Rattle.model.specs.declared.Engine.the-variants.{Plain, Quick}
 use Rattle.model.specs.declared.Set.{Set}
 use Rattle.model.specs.Limits.{slots}
 use Rattle.model.specs.State.{Table, Sleeper, noSet}
-use Rattle.model.specs.Marks.{mine, marked, bitOf, markTouched}
-use Rattle.model.specs.Waking.{World, Ended, Round, nobody, couldFinish, quickRound, quick, waker}
+use Rattle.model.specs.Marks.{mine, marked}
+use Rattle.model.specs.Waking.{World, Ended, nobody, quickRound, waker}
 use Rattle.model.specs.Events.{treat, treatFrom}
 use Rattle.model.proofs.Lists.{drop-at}
 use Rattle.model.proofs.Calm.{Calm, wake-calm, plain-looks, quick-looks}

@@ -1,7 +1,7 @@
 -- Set value, once no check applies.
-use Prim.Native.Nat.{ℕ, zero, suc, _+_, _≤_, _<_, _^_}
+use Prim.Native.Nat.{ℕ, _<_, _^_}
 use native.Mathlib.Omega.{arith}
-use mathlib.Core.Path.{_≡_, refl, sym, _∙_, ap}
+use mathlib.Core.Path.{_≡_, _∙_, ap}
 use native.Mathlib.Nat.{zero-lt-suc}
 use borrow.Author.Tests.{not-false}
 use mathlib.Core.List.{List}
@@ -10,11 +10,11 @@ use lib.Dec.{eqb}
 use lib.IntN.{ℤ, pos, natAbs}
 use Rattle.model.specs.declared.Engine.{Engine}
 use Rattle.model.specs.declared.Host.{Host}
-use Rattle.model.specs.Limits.{slots, semaphores, valueMax}
-use Rattle.model.specs.State.{State, Table}
+use Rattle.model.specs.Limits.{semaphores}
+use Rattle.model.specs.State.{State}
 use Rattle.model.specs.Checks.{check, inRange, slotOf, checkSetValue, checkNumber}
 use Rattle.model.specs.Waking.{waker}
-use Rattle.model.specs.Events.{assigned, doSetValue, wokenAs, world}
+use Rattle.model.specs.Events.{assigned, doSetValue}
 use Rattle.model.specs.Layout.{Held, stateOf, stepOf, tableOf}
 use Rattle.model.proofs.CheckLaws.{passes, Assignable, setValue-passes}
 use Rattle.model.proofs.Invariant.{Good}

@@ -1,22 +1,21 @@
 -- What an event that may wake tells: a refusal, or what the waking leaves.
-use Prim.Native.Nat.{ℕ, zero, suc, _+_, _≤_, _<_}
+use Prim.Native.Nat.{ℕ, _≤_}
 use native.Mathlib.Omega.{arith}
-use mathlib.Core.Path.{_≡_, refl, sym, _∙_, ap, subst}
-use mathlib.Core.List.{List, []}
+use mathlib.Core.Path.{_≡_, _∙_, ap}
+use mathlib.Core.List.{List}
 use lib.ListN.{length}
 use lib.IntN.{ℤ, pos}
 use Rattle.model.specs.declared.Engine.{Engine}
 use Rattle.model.specs.declared.Host.{Host}
 use Rattle.model.specs.declared.Line.{Line}
 use Rattle.model.specs.declared.Set.{Set}
-use Rattle.model.specs.declared.Step.{Step}
-use Rattle.model.specs.Limits.{semaphores, processes}
+use Rattle.model.specs.Limits.{processes}
 use Rattle.model.specs.State.{State, Table, Sleeper}
 use Rattle.model.specs.Waking.{World, Ended, waker}
 use Rattle.model.specs.Events.{Result, checked, world, wokenAs, treatFrom}
-use Rattle.model.specs.Layout.{Held, stateOf, stepOf, hostOf, tableOf, wakingsOf, lineOf, arraysOf}
+use Rattle.model.specs.Layout.{Held, stateOf, stepOf, tableOf, wakingsOf, lineOf, arraysOf}
 use Rattle.model.specs.Runs.{All}
-use Rattle.model.proofs.Invariant.{Good, Fits, Distinct, countAt}
+use Rattle.model.proofs.Invariant.{Good, Fits, Distinct}
 use Rattle.model.proofs.Calm.{Calm}
 use Rattle.model.proofs.LayoutLaws.{queued}
 use Rattle.service.specs.declared.Told.{Told}

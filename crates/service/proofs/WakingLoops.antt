@@ -1,24 +1,21 @@
 -- The loops of the waking: what a round over the places has shown at a position, and what holds where a round begins.
-use Prim.Native.Nat.{ℕ, zero, suc, _+_, _*_, _-_, _≤_, _<_}
+use Prim.Native.Nat.{ℕ, _+_, _*_, _-_, _≤_, _<_}
 use native.Mathlib.Omega.{arith}
 use mathlib.Core.Path.{_≡_, refl, sym, _∙_, ap, subst}
 use mathlib.Core.Bool.{Bool, true, false}
-use mathlib.Core.List.{List, []}
 use lib.ListN.{length, getD, drop}
-use lib.Dec.{eqb}
 use borrow.Author.Tests.{eq-eqb, ne-eqb}
 use Rattle.model.specs.declared.Judged.{Judged}
 use Rattle.model.specs.declared.Place.{Place}
 use Rattle.model.specs.Limits.{processes}
-use Rattle.model.specs.State.{Sleeper, noSleeper}
+use Rattle.model.specs.State.{noSleeper}
 use Rattle.model.specs.Judge.{finishes}
-use Rattle.model.specs.Look.{look}
 use Rattle.model.specs.Marks.{mine}
-use Rattle.model.specs.Waking.{World, Round, nobody, finished, couldFinish, finish, plainRound, plain}
-use Rattle.model.specs.Layout.{noPlace, placeOf}
+use Rattle.model.specs.Waking.{World, nobody, finished, couldFinish, finish, plainRound}
+use Rattle.model.specs.Layout.{noPlace}
 use Rattle.model.proofs.Calm.{Calm, finish-calm}
 use Rattle.model.proofs.WakingLaws.{plain-end, plain-other, plain-sleeps, plain-finishes, plain-over, plain-again, finish-length}
-use Rattle.service.specs.Parts.{Parts, Left, partsOf, worldOf, leftOf, Ready, lookIn, finishedAt, plainly, quickly, looksMax}
+use Rattle.service.specs.Parts.{Parts, Left, partsOf, worldOf, leftOf, Ready, lookIn, finishedAt, plainly}
 use Rattle.service.proofs.PartsLaws.{asleep-all, asleep-few, the-place, the-look, world-back, parts-ready}
 
 -- where a round begins: the parts are ready, and the looks leave room for every look to come

@@ -1,11 +1,11 @@
 -- The parts of a host that a waking works on, and the world that they hold.
-use Prim.Native.Nat.{ℕ, _+_, _*_, _-_, _<_, _≤_}
+use Prim.Native.Nat.{ℕ, _*_, _<_, _≤_}
 use mathlib.Core.Path.{_≡_}
 use mathlib.Core.Bool.{cond, _&&_}
 use mathlib.Core.List.{List, [], _∷_}
 use lib.Bits.{bitOr}
 use lib.Dec.{eqb}
-use lib.ListN.{length, take, drop, getD}
+use lib.ListN.{length, take, getD}
 use lib.IntN.{ℤ}
 use Rattle.model.specs.declared.Set.{Set}
 use Rattle.model.specs.declared.Engine.{Engine}
@@ -14,7 +14,7 @@ use Rattle.model.specs.declared.Line.{Line}
 use Rattle.model.specs.declared.Copies.{Copies}
 use Rattle.model.specs.declared.Judged.{Judged}
 use Rattle.model.specs.declared.Wakings.{Wakings}
-use Rattle.model.specs.Limits.{slots, semaphores, processes, arrayBytes}
+use Rattle.model.specs.Limits.{semaphores, processes, arrayBytes}
 use Rattle.model.specs.State.{Table, Sleeper}
 use Rattle.model.specs.Operation.{hasBit}
 use Rattle.model.specs.Look.{look, applied, valuesOf}

@@ -1,13 +1,13 @@
 // The two waking rules, as labelled loops over the queue. Each works on parts of the host that are lent to it.
 ghost use mathlib.Core.Path.{_≡_};
-ghost use Prim.Native.Nat.{ℕ, _+_, _*_, _-_, _<_, _≤_};
-ghost use lib.ListN.{length, take, drop, replicate};
+ghost use Prim.Native.Nat.{_≤_};
+ghost use lib.ListN.{length, take};
 ghost use Rattle.model.specs.Limits.{slots};
 ghost use Rattle.model.specs.Look.{after};
 ghost use Rattle.model.specs.Marks.{bitOf};
 ghost use Rattle.model.specs.Layout.{tableOf, sleeperAt};
 ghost use Rattle.service.specs.Table.{IsSlot, IsProcess};
-ghost use Rattle.service.specs.Parts.{Placed, IsArrays, Ready, Finishable, parts, left, leftOf, worldOf, lookAs, lookIn, finishedAt, plainly, quickly, treated, treatedFrom, markPlaces, Peopled, looksMax};
+ghost use Rattle.service.specs.Parts.{Placed, IsArrays, Ready, Finishable, parts, left, lookAs, lookIn, finishedAt, plainly, quickly, treated, treatedFrom, markPlaces, Peopled, looksMax};
 use crate::Woken;
 use crate::line::clear_array;
 use crate::line::note;

@@ -7,7 +7,6 @@ use native.Mathlib.Omega.{arith}
 use lib.ListN.{length}
 use lib.Seq.{length-take-le}
 use borrow.Author.Needs.{needs}
-use Rattle.replaying.specs.declared.Progress.{Progress}
 use Rattle.replaying.specs.declared.Wrote.{Wrote}
 use Rattle.replaying.proofs.Whole.{Through, through-start, piece-moves, through-piece, through-all}
 use Rattle.console.proofs.print.Statement.{statement}

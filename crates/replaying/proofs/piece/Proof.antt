@@ -1,7 +1,7 @@
 -- `replaying::piece` meets its contract. The loop's invariant: what the definition gives from here is what it gives from the
 -- start.
 use Prim.Native.Nat.{ℕ, _+_, _<_, _^_}
-use mathlib.Core.Path.{_≡_, refl, sym, ap, _∙_}
+use mathlib.Core.Path.{_≡_, refl, sym, ap}
 use mathlib.Core.Bool.{true}
 use mathlib.Core.Logic.{⊎-elim}
 use mathlib.Core.List.{List}

@@ -10,7 +10,6 @@ use Rattle.model.specs.declared.Host.{Host}
 use Rattle.model.specs.State.{freshState}
 use Rattle.model.specs.Layout.{hostOf}
 use Rattle.runfile.specs.Table.{tableEnd}
-use Rattle.runfile.specs.File.{codeOfFile}
 use Rattle.runfile.proofs.Walk.{is-good}
 use Rattle.lines.proofs.Writing.{line-fits}
 use Rattle.replaying.specs.Replay.{wrote, begun}

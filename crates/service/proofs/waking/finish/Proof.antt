@@ -1,6 +1,6 @@
 -- `service::waking::finish` meets its contract: part by part it leaves what the definition does.
-use Prim.Native.Nat.{_+_, _*_, _-_}
-use mathlib.Core.Path.{_≡_, sym, _∙_, ap}
+use Prim.Native.Nat.{_-_}
+use mathlib.Core.Path.{_≡_, _∙_}
 use native.Mathlib.Omega.{arith}
 use Rattle.service.proofs.PartsLaws.{asleep-few, counted-few, is-arrays, the-placed, finish-left}
 use mir.Syntax.{w32}

@@ -1,7 +1,7 @@
 -- `service::waking::wake_quick` meets its contract: where a round begins, what the rule gives from there is what it gave at the
 -- start; at each position of a round, what the rest of it finds is what the whole finds.
 use borrow.Author.Needs.{needs}
-use Prim.Native.Nat.{_+_, _-_, _*_, _≤_}
+use Prim.Native.Nat.{_+_, _-_}
 use mathlib.Core.Path.{_≡_, refl, sym, _∙_, ap}
 use mathlib.Core.Logic.{⊎-elim}
 use native.Mathlib.Omega.{arith}

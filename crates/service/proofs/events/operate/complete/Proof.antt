@@ -1,5 +1,5 @@
 -- `service::events::operate::complete` meets its contract.
-use mathlib.Core.Path.{_≡_, _∙_}
+use mathlib.Core.Path.{_∙_}
 use native.Mathlib.Omega.{arith}
 use borrow.Author.Needs.{needs}
 use Rattle.service.proofs.OperatingLaws.{applied-parts, completes}
