@@ -30,6 +30,11 @@ pub const ALL_ADJUSTMENTS: usize = PROCESSES * ALL_SEMAPHORES;
 
 pub const ALL_BYTES: usize = PROCESSES * ARRAY_BYTES;
 
+// A waking in a list that an event is lent: a process and its code, one byte each; and the bytes of the whole list.
+pub const ONE_WAKING: usize = 2;
+
+pub const WAKING_BYTES: usize = ONE_WAKING * PROCESSES;
+
 // A slot. `count` is the number of semaphores, 0 in a free slot; the masks have a bit for each process.
 pub struct Set {
     pub generation: u16,
@@ -133,6 +138,46 @@ pub struct Step {
     pub wakings: Wakings,
 }
 
+// An event that is handed in. The bytes of an operate's operations stand beside it.
+pub enum Event {
+    Create {
+        count: u8,
+        read: u8,
+        alter: u8,
+    },
+    Operate {
+        process: u8,
+        identifier: i32,
+    },
+    SetValue {
+        identifier: i32,
+        number: u16,
+        value: i32,
+    },
+    Remove {
+        identifier: i32,
+    },
+    Signal {
+        process: u8,
+    },
+    Exit {
+        process: u8,
+    },
+    Query {
+        identifier: i32,
+        number: u16,
+    },
+}
+
+// What an event tells, beside the wakings in the list that it was lent: its code, its value, its looks, and how many it
+// woke.
+pub struct Told {
+    pub code: i32,
+    pub value: u32,
+    pub looks: usize,
+    pub woken: usize,
+}
+
 // What a query answers. The host stays as it is.
 pub struct Queried {
     pub code: i32,
@@ -142,6 +187,12 @@ pub struct Queried {
     pub zero: u32,
     pub increase_mask: u8,
     pub zero_mask: u8,
+}
+
+// What any event answers.
+pub enum Reply {
+    Told(Told),
+    Seen(Queried),
 }
 
 // A host at its start: four free slots with every number 0, no adjustments, and nobody asleep.
