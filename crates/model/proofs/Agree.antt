@@ -20,14 +20,15 @@ use Rattle.model.specs.Marks.{mine, marked, unmark, named, differing, co
 use Rattle.model.specs.Waking.{World, Ended, Round, nobody, finished, couldFinish, without, finish, plainRound, quickRound, afterRound, plain, remark, quick, waker}
 use Rattle.model.specs.Runs.{All, none, also}
 use Rattle.model.proofs.Lists.{first, rest, all-map, all-zip, all-zip3, all-zip4, all-at, all-without}
-use Rattle.model.proofs.Invariant.{Good, Fits, Other, Distinct}
+use Rattle.model.specs.Invariant.{Good, Fits, Other, Distinct}
 use Rattle.model.proofs.MarkLaws.{unmark-other, Unmarked, mask-all}
 use Rattle.model.proofs.JudgeLaws.{Fine}
 use Rattle.model.proofs.LookLaws.{SameUndo, numbers-fit, look-fine, after-undo, after-value, still-stuck, unconcerned-stuck}
 use Rattle.model.proofs.QueueLaws.{others-first, distinct-rest, others-without}
 use Rattle.model.proofs.WakingLaws.{finish-length}
 use Rattle.model.proofs.Rules.{tame}
-use Rattle.model.proofs.Calm.{Calm, finish-calm}
+use Rattle.model.specs.Invariant.{Calm}
+use Rattle.model.proofs.Calm.{finish-calm}
 
 pub slot-mine : (slot : ℕ) (s : Sleeper) → mine slot s ≡ true → s .slot ≡ slot
 unfolding mine

@@ -19,18 +19,12 @@ use Rattle.model.specs.Counts.{countOf}
 use Rattle.model.specs.Events.{treat, treatFrom}
 use Rattle.model.specs.Runs.{All}
 use Rattle.model.proofs.Lists.{all-at, all-without}
-use Rattle.model.proofs.Invariant.{Good, Fits, Distinct}
+use Rattle.model.specs.Invariant.{Good, Fits, Distinct, Calm}
 use Rattle.model.proofs.JudgeLaws.{either}
 use Rattle.model.proofs.LookLaws.{look-fine, after-good}
 use Rattle.model.proofs.QueueLaws.{distinct-without}
 use Rattle.model.proofs.WakingLaws.{finish-length, finish-wakings}
 use Rattle.model.proofs.Rules.{sumTo, Looked, plain-keeps, quick-keeps, plain-looked, quick-looked, sumTo-mono, sumTo-add, sumTo-8, count-fewer, count-length, Kept, Tame, tame}
-
-pub record Calm (sets : List Set) (w : World) : Type 0 where
-  pub good : Good (w .table)
-  pub fits : All (Fits sets) (w .queue)
-  pub distinct : Distinct (w .queue)
-  pub room : length (w .queue) + length (w .wakings) ≤ processes
 
 module _ {sets : List Set} where
   pub finish-calm : (w : World) (i : ℕ) → Calm sets w → i < length (w .queue) → Calm sets (finish w i)

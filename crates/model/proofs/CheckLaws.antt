@@ -18,7 +18,7 @@ use Rattle.model.specs.Checks.{check, live, slotOf, namesSet, noProcess,
 use Rattle.model.specs.Events.{call}
 use Rattle.model.specs.Runs.{All, none, also}
 use Rattle.model.proofs.Lists.{first}
-use Rattle.model.proofs.Invariant.{Fits, Other, countAt}
+use Rattle.model.specs.Invariant.{Fits, Other, countAt}
 use Rattle.model.proofs.QueueLaws.{awake}
 
 -- ---- tests

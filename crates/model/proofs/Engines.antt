@@ -12,7 +12,7 @@ use Rattle.model.specs.Waking.{waker}
 use Rattle.model.specs.Events.{Event, create, operate, setValue, remove, signal, exit, query, event}
 use Rattle.model.specs.Runs.{Run, run, Reached, start, came, none, Pairwise, end, next, Alike, EnginesAgree}
 use Rattle.model.proofs.Lists.{all-replicate}
-use Rattle.model.proofs.Invariant.{Invariant, alone}
+use Rattle.model.specs.Invariant.{Invariant, alone}
 use Rattle.model.proofs.EventLaws.{Agrees, create-agrees, remove-agrees, signal-agrees, query-agrees}
 use Rattle.model.proofs.WakingEvents.{operate-agrees, setValue-agrees, exit-agrees}
 

@@ -19,11 +19,11 @@ use Rattle.model.specs.Checks.{slotOf, freeSlot, checkCreate, checkNumbe
 use Rattle.model.specs.Events.{Result, refused, checked, wokenAs, cleared, keep, doCreate, doRemove, doSignal, doQuery}
 use Rattle.model.specs.Runs.{All, Alike}
 use Rattle.model.proofs.Lists.{all-map, all-zip, all-zip3, all-set}
-use Rattle.model.proofs.Invariant.{Fits, Invariant, countAt}
+use Rattle.model.specs.Invariant.{Fits, Invariant, countAt}
 use Rattle.model.proofs.QueueLaws.{keep-all, keep-test, keep-distinct, notOf}
 use Rattle.model.proofs.CheckLaws.{alive, Creatable, create-passes, remove-passes}
 use Rattle.model.proofs.TableLaws.{cleared-good, cleared-stuck}
-use Rattle.model.proofs.Calm.{Calm}
+use Rattle.model.specs.Invariant.{Calm}
 use Rattle.model.proofs.Agree.{slot-other}
 
 -- one event in the quick and in the plain engine: what is claimed of it, the same state, and the invariant of that state

@@ -7,7 +7,7 @@ use Rattle.model.specs.Waking.{waker}
 use Rattle.model.specs.Events.{Event, event}
 use Rattle.model.specs.Layout.{Held, hostOf, stateOf}
 use Rattle.model.specs.Runs.{Reached, start, came}
-use Rattle.model.proofs.Invariant.{Invariant}
+use Rattle.model.specs.Invariant.{Invariant}
 use Rattle.model.proofs.LayoutLaws.{queued, queue-back}
 use Rattle.model.proofs.Engines.{reached}
 

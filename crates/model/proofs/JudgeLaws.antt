@@ -24,7 +24,7 @@ use Rattle.model.specs.Operation.{noWait, withUndo}
 use Rattle.model.specs.Judge.{nextValue, nextAdjustment, judged, withValue, undone, valued, step, goOn, judgeFrom}
 use Rattle.model.specs.Runs.{All}
 use Rattle.model.proofs.Lists.{rest, first, all-map, all-set, all-getD, set-alike}
-use Rattle.model.proofs.Invariant.{Ranged}
+use Rattle.model.specs.Invariant.{Ranged}
 
 -- whichever of the two a test picks
 pub either : {A : Type 0} (P : A → Type 0) (b : Bool) (x y : A) → P x → P y → P (cond b x y)

@@ -24,7 +24,7 @@ use Rattle.model.specs.Events.{keep, endedWith, isOf}
 use Rattle.model.specs.Layout.{noPlace, placeOf, lineOf, arrayOf, blockOf, blocksFrom, arraysOf, sleeperAt, queueOf, noWaking, wakingsOf}
 use Rattle.model.specs.Runs.{All, none, also}
 use Rattle.model.proofs.Lists.{all-map, all-at, all-without, length-without}
-use Rattle.model.proofs.Invariant.{Fits, Distinct, apart}
+use Rattle.model.specs.Invariant.{Fits, Distinct, apart}
 use Rattle.model.proofs.QueueLaws.{distinct-without, others-without, fits-few}
 
 -- ---- lists made of blocks

@@ -2,7 +2,6 @@
 -- Lists, masks, and what holds of every state:
 pub mod Lists
 pub mod Bits
-pub mod Invariant
 -- the laws of each file of specs/:
 pub mod MarkLaws
 pub mod JudgeLaws

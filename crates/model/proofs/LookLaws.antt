@@ -21,7 +21,7 @@ use Rattle.model.specs.Marks.{named, differing}
 use Rattle.model.specs.Waking.{couldFinish}
 use Rattle.model.specs.Runs.{All}
 use Rattle.model.proofs.Lists.{all-map, all-zip, all-zip3, all-getD, all-slice, all-paste, getD-slice, getD-paste-beside}
-use Rattle.model.proofs.Invariant.{Good, Fits, Other, countAt}
+use Rattle.model.specs.Invariant.{Good, Fits, Other, countAt}
 use Rattle.model.proofs.Bits.{bit}
 use Rattle.model.proofs.MarkLaws.{untouched, differing-off, named-lt, differing-lt}
 use Rattle.model.proofs.JudgeLaws.{either, Fine, judge-fine, Alike, Agreed, judge-local}

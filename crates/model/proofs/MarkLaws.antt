@@ -18,7 +18,7 @@ use Rattle.model.specs.Operation.{operationsOf, hasBit}
 use Rattle.model.specs.Marks.{bitOf, marked, unmark, namedBy, named, differing, maskOf}
 use Rattle.model.specs.Runs.{All, none, also}
 use Rattle.model.proofs.Lists.{first, rest, all-map}
-use Rattle.model.proofs.Invariant.{Fits, Other}
+use Rattle.model.specs.Invariant.{Fits, Other}
 use Rattle.model.proofs.Bits.{bit, bit-or-same, bit-or-keeps, bit-xor-other, bit-xor-same, hasBit-bit, hasBit-none}
 
 -- ---- marks

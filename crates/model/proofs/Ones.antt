@@ -13,7 +13,7 @@ use Rattle.model.specs.Marks.{bitOf, maskOf}
 use Rattle.model.specs.Counts.{countOf}
 use Rattle.model.specs.Runs.{All}
 use Rattle.model.proofs.Lists.{first, rest, all-map, all-zip3}
-use Rattle.model.proofs.Invariant.{Fits, Distinct}
+use Rattle.model.specs.Invariant.{Fits, Distinct}
 use Rattle.model.proofs.Bits.{bit, bit-zero, bit-or-other}
 use Rattle.model.proofs.QueueLaws.{others-first, distinct-rest}
 

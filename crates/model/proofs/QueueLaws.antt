@@ -18,7 +18,7 @@ use Rattle.model.specs.Checks.{asleep}
 use Rattle.model.specs.Events.{keep, endedWith, isOf}
 use Rattle.model.specs.Runs.{All, none, also}
 use Rattle.model.proofs.Lists.{first, rest, all-map, all-zip, all-at, all-append, all-without}
-use Rattle.model.proofs.Invariant.{Fits, Other, Distinct, alone, apart, Invariant}
+use Rattle.model.specs.Invariant.{Fits, Other, Distinct, alone, apart, Invariant}
 
 pub others-first : {s : Sleeper} {q : List Sleeper} → Distinct (s ∷ q) → All (Other s) q
 others-first (apart h t) = h

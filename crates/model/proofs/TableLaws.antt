@@ -21,7 +21,7 @@ use Rattle.model.specs.Waking.{couldFinish}
 use Rattle.model.specs.Events.{clearRows, cleared, clearNumber, assigned, cut, undoAll, exited}
 use Rattle.model.specs.Runs.{All, none, also}
 use Rattle.model.proofs.Lists.{rest, all-map, all-zip, all-set, all-paste, all-replicate, getD-paste-beside}
-use Rattle.model.proofs.Invariant.{Good, Fits, Ranged}
+use Rattle.model.specs.Invariant.{Good, Fits, Ranged}
 use Rattle.model.proofs.Bits.{bit, bit-pow-same}
 use Rattle.model.proofs.MarkLaws.{untouched}
 use Rattle.model.proofs.JudgeLaws.{either}

@@ -26,14 +26,15 @@ use Rattle.model.specs.Checks.{live, slotOf, checkOperate, checkSetValue
 use Rattle.model.specs.Events.{wokenAs, world, operated, call, doOperate, assigned, doSetValue, exited, keep, treat, treatFrom, touchedFrom, doExit}
 use Rattle.model.specs.Runs.{All, none, also}
 use Rattle.model.proofs.Lists.{all-map, all-zip, all-zip3, all-append}
-use Rattle.model.proofs.Invariant.{Good, Fits, Other, Invariant, countAt}
+use Rattle.model.specs.Invariant.{Good, Fits, Other, Invariant, countAt}
 use Rattle.model.proofs.JudgeLaws.{Fine}
 use Rattle.model.proofs.LookLaws.{count-fits, numbers-fit, look-fine, applied-good, applied-undo, applied-value, still-stuck, unconcerned-stuck}
 use Rattle.model.proofs.QueueLaws.{few, distinct-snoc, keep-test, notOf}
 use Rattle.model.proofs.TableLaws.{assigned-good, assigned-stuck, unnamed-other, exited-good, exited-stuck}
 use Rattle.model.proofs.CheckLaws.{alive, Operable, operate-passes, Assignable, setValue-passes, process-passes}
 use Rattle.model.proofs.Rules.{tame}
-use Rattle.model.proofs.Calm.{Calm, wake-calm, treatFrom-looked, looks-36, from}
+use Rattle.model.specs.Invariant.{Calm}
+use Rattle.model.proofs.Calm.{wake-calm, treatFrom-looked, looks-36, from}
 use Rattle.model.proofs.Agree as rules
 use Rattle.model.proofs.Agree.{slot-mine, slot-other, Rests, Aside, Ready, wake-aside, wakers-agree}
 use Rattle.model.proofs.EventLaws.{Agrees, quiet, checked-agrees, woken-agrees, keep-kept}

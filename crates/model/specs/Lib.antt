@@ -10,5 +10,6 @@ pub mod Checks
 pub mod Counts
 pub mod Events
 pub mod Runs
+pub mod Invariant
 pub mod Layout
 pub mod Situations

@@ -13,7 +13,7 @@ use Rattle.model.specs.State.{State, Table, Sleeper}
 use Rattle.model.specs.Events.{Result, checked, refused, world}
 use Rattle.model.specs.Layout.{Held, stateOf, lineOf, arraysOf, wakingsOf, stepOf}
 use Rattle.model.specs.Runs.{All}
-use Rattle.model.proofs.Invariant.{Invariant, Good, Fits, Distinct, countAt}
+use Rattle.model.specs.Invariant.{Invariant, Good, Fits, Distinct, countAt}
 use Rattle.model.proofs.Engines.{reached}
 use Rattle.model.proofs.LayoutLaws.{queued}
 use Rattle.model.proofs.LookLaws.{count-fits}

@@ -14,7 +14,7 @@ use Rattle.model.specs.Waking.{waker}
 use Rattle.model.specs.Events.{exited, keep, touchedFrom, doExit}
 use Rattle.model.specs.Layout.{Held, stateOf, stepOf, tableOf}
 use Rattle.model.specs.Runs.{All}
-use Rattle.model.proofs.Invariant.{Good, Fits, Distinct}
+use Rattle.model.specs.Invariant.{Good, Fits, Distinct}
 use Rattle.model.proofs.CheckLaws.{process-passes}
 use Rattle.model.proofs.QueueLaws.{notOf, keep-all, keep-distinct}
 use Rattle.model.proofs.TableLaws.{exited-good}

@@ -23,7 +23,7 @@ use Rattle.model.specs.Events.{keep}
 use Rattle.model.specs.Layout.{noPlace, placeOf, lineOf, hostOf, queueOf, stateOf, wakingsOf}
 use Rattle.model.specs.Runs.{none, also}
 use Rattle.model.proofs.Lists.{all-at}
-use Rattle.model.proofs.Invariant.{Invariant}
+use Rattle.model.specs.Invariant.{Invariant}
 use Rattle.model.proofs.QueueLaws.{notOf}
 use Rattle.model.proofs.LayoutLaws.{Awake, keep-awake, keep-without, Room, Queued, queued, asleep-is, length-arrays, place-at, array-at, line-without, arrays-without, line-joined, arrays-joined, count-is, wakings-joined}
 use Rattle.service.specs.Table.{IsProcess}

@@ -26,7 +26,7 @@ use Rattle.model.specs.Waking.{waker}
 use Rattle.model.specs.Events.{Result, call, operated, doOperate}
 use Rattle.model.specs.Layout.{Held, stateOf, stepOf, tableOf, placeOf, lineOf, arraysOf}
 use Rattle.model.specs.Runs.{none, also}
-use Rattle.model.proofs.Invariant.{Good, Fits}
+use Rattle.model.specs.Invariant.{Good, Fits}
 use Rattle.model.proofs.Lists.{all-append}
 use Rattle.model.proofs.CheckLaws.{Operable, operate-passes}
 use Rattle.model.proofs.QueueLaws.{distinct-snoc, fits-few}

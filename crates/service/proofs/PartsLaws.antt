@@ -25,9 +25,9 @@ use Rattle.model.specs.Judge.{codeOf}
 use Rattle.model.specs.Look.{look, after, valuesOf, adjustmentsOf}
 use Rattle.model.specs.Waking.{World, finish, without, waking}
 use Rattle.model.specs.Layout.{noPlace, placeOf, lineOf, arraysOf, wakingsOf, tableOf, queueOf, sleeperAt}
-use Rattle.model.proofs.Invariant.{Fits, countAt}
+use Rattle.model.specs.Invariant.{Fits, countAt}
 use Rattle.model.proofs.Lists.{all-map, all-at}
-use Rattle.model.proofs.Calm.{Calm}
+use Rattle.model.specs.Invariant.{Calm}
 use Rattle.model.proofs.LayoutLaws.{Queued, queued, length-arrays, place-at, array-at, line-without, arrays-without, wakings-joined, queue-back}
 use Rattle.service.specs.Table.{Numbered}
 use Rattle.service.specs.Line.{takenOut, noted}

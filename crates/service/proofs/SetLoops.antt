@@ -15,7 +15,8 @@ use Rattle.model.specs.Marks.{mine, marked}
 use Rattle.model.specs.Waking.{World, Ended, nobody, quickRound, waker}
 use Rattle.model.specs.Events.{treat, treatFrom}
 use Rattle.model.proofs.Lists.{drop-at}
-use Rattle.model.proofs.Calm.{Calm, wake-calm, plain-looks, quick-looks}
+use Rattle.model.specs.Invariant.{Calm}
+use Rattle.model.proofs.Calm.{wake-calm, plain-looks, quick-looks}
 use Rattle.model.proofs.WakingLaws.{quick-over}
 use Rattle.service.specs.Parts.{Parts, Left, partsOf, worldOf, leftOf, Ready, plainly, quickly, treated, treatedFrom, markPlaces}
 use Rattle.service.proofs.PartsLaws.{world-back, parts-ready}

@@ -17,7 +17,7 @@ use Rattle.model.specs.Waking.{waker}
 use Rattle.model.specs.Events.{assigned, doSetValue}
 use Rattle.model.specs.Layout.{Held, stateOf, stepOf, tableOf}
 use Rattle.model.proofs.CheckLaws.{passes, Assignable, setValue-passes}
-use Rattle.model.proofs.Invariant.{Good}
+use Rattle.model.specs.Invariant.{Good}
 use Rattle.model.proofs.TableLaws.{assigned-good}
 use Rattle.judging.specs.Value.{valueOf}
 use Rattle.service.specs.declared.Woken.{Woken}

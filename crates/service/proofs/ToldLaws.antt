@@ -15,8 +15,8 @@ use Rattle.model.specs.Waking.{World, Ended, waker}
 use Rattle.model.specs.Events.{Result, checked, world, wokenAs, treatFrom}
 use Rattle.model.specs.Layout.{Held, stateOf, stepOf, tableOf, wakingsOf, lineOf, arraysOf}
 use Rattle.model.specs.Runs.{All}
-use Rattle.model.proofs.Invariant.{Good, Fits, Distinct}
-use Rattle.model.proofs.Calm.{Calm}
+use Rattle.model.specs.Invariant.{Good, Fits, Distinct}
+use Rattle.model.specs.Invariant.{Calm}
 use Rattle.model.proofs.LayoutLaws.{queued}
 use Rattle.service.specs.declared.Told.{Told}
 use Rattle.service.specs.declared.Woken.{Woken}

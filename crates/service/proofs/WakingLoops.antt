@@ -13,7 +13,8 @@ use Rattle.model.specs.Judge.{finishes}
 use Rattle.model.specs.Marks.{mine}
 use Rattle.model.specs.Waking.{World, nobody, finished, couldFinish, finish, plainRound}
 use Rattle.model.specs.Layout.{noPlace}
-use Rattle.model.proofs.Calm.{Calm, finish-calm}
+use Rattle.model.specs.Invariant.{Calm}
+use Rattle.model.proofs.Calm.{finish-calm}
 use Rattle.model.proofs.WakingLaws.{plain-end, plain-other, plain-sleeps, plain-finishes, plain-over, plain-again, finish-length}
 use Rattle.service.specs.Parts.{Parts, Left, partsOf, worldOf, leftOf, Ready, lookIn, finishedAt, plainly}
 use Rattle.service.proofs.PartsLaws.{asleep-all, asleep-few, the-place, the-look, world-back, parts-ready}

@@ -22,8 +22,8 @@ use Rattle.model.specs.Marks.{bitOf, differing}
 use Rattle.model.specs.Waking.{World, Ended, finish, plain, quick, waker}
 use Rattle.model.specs.Events.{treatFrom}
 use Rattle.model.specs.Layout.{noPlace, lineOf, arraysOf, wakingsOf, tableOf, queueOf, sleeperAt}
-use Rattle.model.proofs.Invariant.{countAt}
-use Rattle.model.proofs.Calm.{Calm}
+use Rattle.model.specs.Invariant.{countAt}
+use Rattle.model.specs.Invariant.{Calm}
 use Rattle.service.specs.declared.Woken.{Woken}
 use Rattle.service.specs.Table.{IsSlot, IsProcess, Numbered}
 

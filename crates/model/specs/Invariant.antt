@@ -1,0 +1,64 @@
+-- What holds of every state that is fresh or came back from an event.
+use Prim.Native.Nat.{ℕ, _+_, _%_, _≤_, _<_}
+use mathlib.Core.Path.{_≡_}
+use mathlib.Core.Logic.{_≢_}
+use mathlib.Core.List.{List, [], _∷_}
+use lib.ListN.{length, getD}
+use lib.IntN.{ℤ, natAbs}
+use Rattle.model.specs.declared.Set.{Set}
+use Rattle.model.specs.declared.Operation.{Operation}
+use Rattle.model.specs.Limits.{slots, semaphores, processes, valueMax, operationBytes, arrayBytes, allSemaphores, allAdjustments}
+use Rattle.model.specs.State.{Table, Sleeper, State, noSet}
+use Rattle.model.specs.Operation.{operationsOf}
+use Rattle.model.specs.Runs.{All, Stuck}
+use Rattle.model.specs.Waking.{World}
+
+-- an undo adjustment: -32,767 to 32,767
+abbrev pub Ranged : ℤ → Type 0
+Ranged z = natAbs z ≤ valueMax
+
+-- a table has its sizes, and each number its range
+pub record Good (t : Table) : Type 0 where
+  pub values : length (t .values) ≡ allSemaphores
+  pub lasts : length (t .lasts) ≡ allSemaphores
+  pub adjustments : length (t .adjustments) ≡ allAdjustments
+  pub small : All (λ (v : ℕ). v ≤ valueMax) (t .values)
+  pub ranged : All Ranged (t .adjustments)
+
+-- the number of semaphores in a slot
+abbrev pub countAt : List Set → ℕ → ℕ
+countAt sets slot = getD sets slot noSet .count
+
+-- a sleeper's process, slot and array are as the checks of operate left them
+pub record Fits (sets : List Set) (s : Sleeper) : Type 0 where
+  pub process : 1 ≤ s .process
+  pub last : s .process ≤ processes
+  pub slot : s .slot < slots
+  pub some : 0 < length (s .array)
+  pub whole : length (s .array) % operationBytes ≡ 0
+  pub short : length (s .array) ≤ arrayBytes
+  pub numbers : All (λ (o : Operation). o .number < countAt sets (s .slot)) (operationsOf (s .array))
+
+-- of another process
+abbrev pub Other : Sleeper → Sleeper → Type 0
+Other p q = q .process ≢ p .process
+
+-- "sleeping calls of a process: at most one"
+pub data Distinct : List Sleeper → Type 0 where
+  alone : Distinct []
+  apart : {p : Sleeper} {ps : List Sleeper} → All (Other p) ps → Distinct ps → Distinct (p ∷ ps)
+
+pub record Invariant (s : State) : Type 0 where
+  pub sets : length (s .sets) ≡ slots
+  pub counts : All (λ (k : Set). k .count ≤ semaphores) (s .sets)
+  pub good : Good (s .table)
+  pub fits : All (Fits (s .sets)) (s .queue)
+  pub distinct : Distinct (s .queue)
+  pub stuck : All (Stuck s) (s .queue)
+
+-- the same inside a waking: of the table, of the queue, and of those who were woken
+pub record Calm (sets : List Set) (w : World) : Type 0 where
+  pub good : Good (w .table)
+  pub fits : All (Fits sets) (w .queue)
+  pub distinct : Distinct (w .queue)
+  pub room : length (w .queue) + length (w .wakings) ≤ processes

@@ -1,0 +1,97 @@
+//! Scenes that stay as they are: processes asleep, and the same event again and again. No seed
+//! draws them; they are for the benchmark.
+
+use second::write::{self, Operation, UNDO};
+
+use crate::kind::Kind;
+use crate::kind::Make::Script;
+use crate::scene::Scene;
+
+pub static STEADY: [Kind; 2] = [
+    Kind {
+        name: "counts",
+        make: Script(counts),
+        about: "queries alone, with eight asleep on eight operations each",
+    },
+    Kind {
+        name: "settings",
+        make: Script(settings),
+        about: "set value alone, looking at seven asleep and waking nobody",
+    },
+];
+
+/// The most that `settings` sets.
+const MOST: i32 = 4;
+
+/// Every array names all eight semaphores and stops at its last operation, at another semaphore
+/// for each process. So every query judges all eight arrays to the end, and counts one.
+fn counts(scene: &mut Scene) {
+    let id = scene.open_set(8).identifier;
+    for process in scene.awake() {
+        let mut array: Vec<Operation> = Vec::new();
+        for step in 1..8 {
+            array.push(((u16::from(process) + step) % 8, 1, scene.rng.pick(&[0, UNDO])));
+        }
+        array.push((u16::from(process) % 8, -1, 0));
+        scene.push(write::operate(process, id, &array));
+    }
+    let number = scene.rng.below(8) as u16;
+    scene.push(write::query(id, number));
+}
+
+/// Every array ends by taking more from semaphore 0 than it is ever set to.
+fn settings(scene: &mut Scene) {
+    let id = scene.open_set(8).identifier;
+    for process in scene.awake().into_iter().filter(|&process| process != 8) {
+        let mut array: Vec<Operation> = Vec::new();
+        for _ in 0..3 {
+            array.push((scene.rng.between(1, 7) as u16, 1, scene.rng.pick(&[0, UNDO])));
+        }
+        array.push((0, -1 - MOST as i16, 0));
+        scene.push(write::operate(process, id, &array));
+    }
+    let value = scene.rng.between(0, MOST);
+    scene.push(write::set_value(id, 0, value));
+}
+
+#[cfg(test)]
+mod tests {
+    use super::*;
+    use crate::random::Rng;
+    use second::{Answer, Event, Host, Report, Rule, State, FILE_MAX};
+
+    /// The answers of a full file, behind the create and the operates that sleep.
+    fn answers(play: fn(&mut Scene), rule: Rule, asleep: usize) -> Vec<Answer> {
+        let bodies = Scene::played(play, Rng::new(3, 0), FILE_MAX);
+        let mut host = Host::new(rule);
+        let answer = |body: &Vec<u8>| host.handle(&Event::decode(body).expect("a good body"));
+        let mut answers: Vec<Answer> = bodies.iter().map(answer).collect();
+        assert!(answers[1..=asleep].iter().all(|answer| answer.code() == -1));
+        assert_eq!(host.asleep().count_ones() as usize, asleep);
+        answers.split_off(asleep + 1)
+    }
+
+    #[test]
+    fn a_query_counts_one_of_eight() {
+        let counts_one = |answer: &Answer| match answer {
+            Answer::Query(State { code: 0, for_increase, for_zero: 0, .. }) => {
+                for_increase.count_ones() == 1
+            }
+            _ => false,
+        };
+        assert!(answers(counts, Rule::Quick, 8).iter().all(counts_one));
+    }
+
+    #[test]
+    fn a_setting_looks_at_seven_and_wakes_nobody() {
+        let looks_at_seven = |answer: &Answer| match answer {
+            Answer::Event(Report { code: 0, looks: 7, wakings, .. }) => {
+                wakings.as_slice().is_empty()
+            }
+            _ => false,
+        };
+        for rule in [Rule::Quick, Rule::Plain] {
+            assert!(answers(settings, rule, 7).iter().all(looks_at_seven));
+        }
+    }
+}

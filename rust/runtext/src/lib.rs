@@ -1,0 +1,32 @@
+//! Run files as text, and replays as stories, for people.
+//!
+//! A text has one event a line (the grammar stands in `parse`); text and run file turn into each
+//! other exactly. A story shows a replay event by event: what was asked, what the program
+//! answered, who woke, and the values after it.
+//!
+//! Data goes one way: text or bytes to events (`parse`, `runfile`), events to bytes or text
+//! (`runfile`, `print`). A story hands bytes to the program, reads its lines (`answer`), and puts
+//! queries behind the events (`questions`) to learn the values. No rule of the service is in here:
+//! what a story shows is what the program wrote.
+
+#![forbid(unsafe_code)]
+
+mod answer;
+mod body;
+mod codes;
+pub mod event;
+mod mask;
+mod mistake;
+mod operation;
+pub mod parse;
+pub mod print;
+pub mod program;
+mod questions;
+mod refusal;
+pub mod runfile;
+mod scan;
+pub mod story;
+mod words;
+
+pub use mistake::Mistake;
+pub use refusal::Refusal;

@@ -1,0 +1,101 @@
+//! One operation as text: number, amount and flags as in `0:-1`, `1:+3/undo` or `2:0/nowait,0x7`.
+
+use std::fmt;
+
+use crate::event::{Operation, NOWAIT, UNDO};
+use crate::mistake::Mistake;
+use crate::scan::Word;
+
+const OPERATION: &str = "an operation as in 0:-1 or 1:+3/undo";
+pub const NUMBER: &str = "the number of a semaphore, 0 to 65535";
+const AMOUNT: &str = "an amount, -32768 to 32767";
+const FLAGS: &str = "undo, nowait or bits as in 0x0007";
+
+pub fn parse(word: Word) -> Result<Operation, Mistake> {
+    let (number, rest) = word.split(':');
+    let rest = rest.ok_or_else(|| word.mistake(OPERATION))?;
+    let (amount, flags) = rest.split('/');
+    Ok(Operation {
+        number: number.number(NUMBER)?,
+        amount: amount.number(AMOUNT)?,
+        flags: flags.map_or(Ok(0), parse_flags)?,
+    })
+}
+
+fn parse_flags(word: Word) -> Result<u16, Mistake> {
+    let mut flags = 0;
+    for part in word.parts(',') {
+        flags |= match part.text {
+            "undo" => UNDO,
+            "nowait" => NOWAIT,
+            _ => part.hexadecimal().ok_or_else(|| part.mistake(FLAGS))?,
+        };
+    }
+    Ok(flags)
+}
+
+/// The names of the flags, then the ignored bits if there are any.
+pub fn flag_names(flags: u16) -> Vec<String> {
+    let mut names = Vec::new();
+    if flags & UNDO != 0 {
+        names.push("undo".to_string());
+    }
+    if flags & NOWAIT != 0 {
+        names.push("nowait".to_string());
+    }
+    let ignored = flags & !(UNDO | NOWAIT);
+    if ignored != 0 {
+        names.push(format!("{ignored:#06x}"));
+    }
+    names
+}
+
+impl fmt::Display for Operation {
+    fn fmt(&self, f: &mut fmt::Formatter) -> fmt::Result {
+        match self.amount {
+            0 => write!(f, "{}:0", self.number)?,
+            amount => write!(f, "{}:{amount:+}", self.number)?,
+        }
+        match &flag_names(self.flags)[..] {
+            [] => Ok(()),
+            names => write!(f, "/{}", names.join(",")),
+        }
+    }
+}
+
+#[cfg(test)]
+mod tests {
+    use super::*;
+
+    fn operation(text: &str) -> Result<Operation, Mistake> {
+        parse(Word { text, column: 1 })
+    }
+
+    #[test]
+    fn every_amount_and_every_flag_comes_back() {
+        for bits in 0..=u16::MAX {
+            let wanted = Operation { number: bits, amount: bits as i16, flags: bits };
+            assert_eq!(operation(&wanted.to_string()), Ok(wanted));
+        }
+    }
+
+    #[test]
+    fn the_names_in_their_order() {
+        let text = |text| operation(text).expect("an operation").to_string();
+        assert_eq!(text("0:-1"), "0:-1");
+        assert_eq!(text("1:3/0x0"), "1:+3");
+        assert_eq!(text("2:-0/nowait,undo"), "2:0/undo,nowait");
+        assert_eq!(text("2:+1/0x1807"), "2:+1/undo,nowait,0x0007");
+    }
+
+    #[test]
+    fn mistakes_say_where() {
+        let words = |text| operation(text).expect_err(text).to_string();
+        assert_eq!(words("nowait"), format!("0:1: expected {OPERATION}, found 'nowait'"));
+        assert_eq!(words("x:1"), format!("0:1: expected {NUMBER}, found 'x'"));
+        assert_eq!(words("0:40000"), format!("0:3: expected {AMOUNT}, found '40000'"));
+        assert_eq!(words("0:"), format!("0:3: expected {AMOUNT}, found nothing"));
+        assert_eq!(words("0:-1/undo,wait"), format!("0:11: expected {FLAGS}, found 'wait'"));
+        assert_eq!(words("0:-1/0x10000"), format!("0:6: expected {FLAGS}, found '0x10000'"));
+    }
+}

@@ -1,0 +1,213 @@
+//! From a text to the events of a run.
+//!
+//! One event a line; blank lines are skipped, and a comment goes from `#` to the end of its line.
+//! Words are parted by blanks:
+//!
+//! ```text
+//! event     = "create" count ["read=" mask] ["alter=" mask]
+//!           | "operate" process "set=" identifier {operation}
+//!           | "set" identifier "number=" number "value=" value
+//!           | "remove" identifier
+//!           | "signal" process
+//!           | "exit" process
+//!           | "query" identifier "number=" number
+//! operation = number ":" amount ["/" flag {"," flag}]
+//! flag      = "undo" | "nowait" | "0x" hexadecimal digits
+//! mask      = "all" | "none" | process {"," process} | "0x" hexadecimal digits
+//! ```
+//!
+//! A mask left out is `all`. Numbers are decimal and go as far as their fields in the body; an
+//! amount may have a plus.
+
+use crate::event::Event;
+use crate::mask;
+use crate::mistake::Mistake;
+use crate::operation::{self, NUMBER};
+use crate::runfile::{self, FILE_MAX, HEAD};
+use crate::scan::Words;
+
+const EVENT: &str = "create, operate, set, remove, signal, exit or query";
+const COUNT: &str = "a count of semaphores, 0 to 255";
+const PROCESS: &str = "a process, 0 to 255";
+const IDENTIFIER: &str = "an identifier, -2147483648 to 2147483647";
+const VALUE: &str = "a value, -2147483648 to 2147483647";
+const END: &str = "the end of the line";
+/// The number of operations is one byte of the body.
+const OPERATIONS: &str = "the end of the line after 255 operations";
+
+/// The events of a text, which fit into one run file.
+pub fn events(text: &[u8]) -> Result<Vec<Event>, Mistake> {
+    let mut events = Vec::new();
+    let mut size = HEAD;
+    for (index, line) in characters(text)?.lines().enumerate() {
+        let on_line = |mistake| Mistake { line: index + 1, ..mistake };
+        if let Some(event) = event(line).map_err(on_line)? {
+            size += runfile::size(&event);
+            if size > FILE_MAX {
+                return Err(on_line(too_long(size)));
+            }
+            events.push(event);
+        }
+    }
+    Ok(events)
+}
+
+fn too_long(size: usize) -> Mistake {
+    let expected = format!("a run of at most {FILE_MAX} bytes");
+    Mistake { line: 0, column: 1, expected, found: format!("{size} with this event") }
+}
+
+fn characters(text: &[u8]) -> Result<&str, Mistake> {
+    std::str::from_utf8(text).map_err(|error| {
+        let (good, bad) = text.split_at(error.valid_up_to());
+        let before = String::from_utf8_lossy(good);
+        let last = before.rsplit('\n').next().unwrap_or_default();
+        Mistake {
+            line: before.matches('\n').count() + 1,
+            column: last.chars().count() + 1,
+            expected: "text in UTF-8".to_string(),
+            found: format!("the byte {:#04x}", bad[0]),
+        }
+    })
+}
+
+/// The event of a line, if there is one.
+fn event(line: &str) -> Result<Option<Event>, Mistake> {
+    let mut words = Words::of(line);
+    if words.is_empty() {
+        return Ok(None);
+    }
+    let words = &mut words;
+    let kind = words.word(EVENT)?;
+    let event = match kind.text {
+        "create" => create(words)?,
+        "operate" => operate(words)?,
+        "set" => Event::SetValue {
+            identifier: words.number(IDENTIFIER)?,
+            number: words.named("number", NUMBER)?,
+            value: words.named("value", VALUE)?,
+        },
+        "remove" => Event::Remove { identifier: words.number(IDENTIFIER)? },
+        "signal" => Event::Signal { process: words.number(PROCESS)? },
+        "exit" => Event::Exit { process: words.number(PROCESS)? },
+        "query" => Event::Query {
+            identifier: words.number(IDENTIFIER)?,
+            number: words.named("number", NUMBER)?,
+        },
+        _ => return Err(kind.mistake(EVENT)),
+    };
+    words.end(END)?;
+    Ok(Some(event))
+}
+
+fn create(words: &mut Words) -> Result<Event, Mistake> {
+    let count = words.number(COUNT)?;
+    let mut mask = |name| words.option(name).map(mask::parse).transpose();
+    let (read, alter) = (mask("read")?, mask("alter")?);
+    let expected = match (read, alter) {
+        (None, None) => "read=, alter= or the end of the line",
+        (Some(_), None) => "alter= or the end of the line",
+        _ => END,
+    };
+    words.end(expected)?;
+    Ok(Event::Create { count, read: read.unwrap_or(0xFF), alter: alter.unwrap_or(0xFF) })
+}
+
+fn operate(words: &mut Words) -> Result<Event, Mistake> {
+    let process = words.number(PROCESS)?;
+    let identifier = words.named("set", IDENTIFIER)?;
+    let mut operations = Vec::new();
+    for word in words {
+        if operations.len() == usize::from(u8::MAX) {
+            return Err(word.mistake(OPERATIONS));
+        }
+        operations.push(operation::parse(word)?);
+    }
+    Ok(Event::Operate { process, identifier, operations })
+}
+
+#[cfg(test)]
+mod tests {
+    use super::*;
+    use crate::event::{Operation, NOWAIT, UNDO};
+
+    fn mistake(text: &str) -> String {
+        events(text.as_bytes()).expect_err("a mistake").to_string()
+    }
+
+    #[test]
+    fn every_event_with_every_field() {
+        let text = "# A comment, and a blank line.\n\n\
+            create 1 read=all alter=none # here too\r\n\
+            \tcreate 255 alter=1,8\n\
+            operate 1 set=0 0:-1 1:+3/undo 2:0/nowait,undo#\n\
+            operate 255 set=-2147483648\n\
+            set 2147483647 number=65535 value=-2147483648\n\
+            remove -1\nsignal 0\nexit 9\nquery 4 number=7";
+        let operation = |number, amount, flags| Operation { number, amount, flags };
+        let operations =
+            vec![operation(0, -1, 0), operation(1, 3, UNDO), operation(2, 0, NOWAIT | UNDO)];
+        let wanted = [
+            Event::Create { count: 1, read: 0xFF, alter: 0 },
+            Event::Create { count: 255, read: 0xFF, alter: 0x81 },
+            Event::Operate { process: 1, identifier: 0, operations },
+            Event::Operate { process: 255, identifier: i32::MIN, operations: vec![] },
+            Event::SetValue { identifier: i32::MAX, number: 65_535, value: i32::MIN },
+            Event::Remove { identifier: -1 },
+            Event::Signal { process: 0 },
+            Event::Exit { process: 9 },
+            Event::Query { identifier: 4, number: 7 },
+        ];
+        assert_eq!(events(text.as_bytes()).as_deref(), Ok(&wanted[..]));
+    }
+
+    #[test]
+    fn mistakes_have_line_column_and_what_was_expected() {
+        let amount = "an amount, -32768 to 32767";
+        let masks = "read=, alter= or the end of the line";
+        let number = format!("number= with {NUMBER}");
+        let value = format!("value= with {VALUE}");
+        let end = "the end of the line";
+        let cases = [
+            ("\n\noperate 1 set=0 0:40000", "3:19", amount, "'40000'"),
+            ("opreate 1", "1:1", EVENT, "'opreate'"),
+            ("  remove", "1:9", IDENTIFIER, end),
+            ("remove # 3", "1:7", IDENTIFIER, end),
+            ("remove 2147483648", "1:8", IDENTIFIER, "'2147483648'"),
+            ("exit 1 2", "1:8", END, "'2'"),
+            ("signal -1", "1:8", PROCESS, "'-1'"),
+            ("set 0 nr=1 value=2", "1:7", &number, "'nr=1'"),
+            ("set 0 number=1", "1:15", &value, end),
+            ("query 0 number=", "1:16", NUMBER, "nothing"),
+            ("create 256", "1:8", COUNT, "'256'"),
+            ("create 1 alter=1 read=1", "1:18", END, "'read=1'"),
+            ("create 1 all", "1:10", masks, "'all'"),
+            ("exit 1\n\u{1}", "2:1", EVENT, "'\\u{1}'"),
+        ];
+        for (text, place, expected, found) in cases {
+            assert_eq!(mistake(text), format!("{place}: expected {expected}, found {found}"));
+        }
+    }
+
+    #[test]
+    fn bytes_that_are_no_text() {
+        let mistake = events(b"exit 1\n# \xC3\xA4\xFF").expect_err("no text");
+        assert_eq!(mistake.to_string(), "2:4: expected text in UTF-8, found the byte 0xff");
+    }
+
+    #[test]
+    fn as_many_operations_as_a_body_holds() {
+        let line = |operations| format!("operate 1 set=0{}", " 0:0".repeat(operations));
+        assert!(events(line(255).as_bytes()).is_ok());
+        let wanted = format!("1:1037: expected {OPERATIONS}, found '0:0'");
+        assert_eq!(mistake(&line(256)), wanted);
+    }
+
+    /// Of events with six bytes each 10,922 fit.
+    #[test]
+    fn as_many_events_as_a_file_holds() {
+        assert!(events("exit 1\n".repeat(10_922).as_bytes()).is_ok());
+        let wanted = "10923:1: expected a run of at most 65535 bytes, found 65540 with this event";
+        assert_eq!(mistake(&"exit 1\n".repeat(10_923)), wanted);
+    }
+}

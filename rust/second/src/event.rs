@@ -1,0 +1,47 @@
+//! The seven events and their bodies in a run file.
+
+use crate::bad::Bad;
+
+/// An event, with the fields as they stand in its body; an operate's operations are lent.
+#[derive(Clone, Copy, Debug)]
+pub enum Event<'a> {
+    Create { count: u8, read: u8, alter: u8 },
+    Operate { process: u8, identifier: i32, operations: &'a [u8] },
+    SetValue { identifier: i32, number: u16, value: i32 },
+    Remove { identifier: i32 },
+    Signal { process: u8 },
+    Exit { process: u8 },
+    Query { identifier: i32, number: u16 },
+}
+
+/// Bytes of one operation.
+pub const OPERATION: usize = 6;
+
+impl<'a> Event<'a> {
+    /// Reads a body, or says what is wrong with it.
+    pub fn decode(body: &'a [u8]) -> Result<Event<'a>, Bad> {
+        Ok(match *body {
+            [1, count, read, alter] => Event::Create { count, read, alter },
+            [2, process, a, b, c, d, number, ref operations @ ..]
+                if operations.len() == OPERATION * usize::from(number) =>
+            {
+                let identifier = i32::from_le_bytes([a, b, c, d]);
+                Event::Operate { process, identifier, operations }
+            }
+            [3, a, b, c, d, n, m, e, f, g, h] => Event::SetValue {
+                identifier: i32::from_le_bytes([a, b, c, d]),
+                number: u16::from_le_bytes([n, m]),
+                value: i32::from_le_bytes([e, f, g, h]),
+            },
+            [4, a, b, c, d] => Event::Remove { identifier: i32::from_le_bytes([a, b, c, d]) },
+            [5, process] => Event::Signal { process },
+            [6, process] => Event::Exit { process },
+            [7, a, b, c, d, n, m] => Event::Query {
+                identifier: i32::from_le_bytes([a, b, c, d]),
+                number: u16::from_le_bytes([n, m]),
+            },
+            [] | [1..=7, ..] => return Err(Bad::Body),
+            [_, ..] => return Err(Bad::Kind),
+        })
+    }
+}

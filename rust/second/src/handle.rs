@@ -1,0 +1,134 @@
+//! The seven events of a host.
+
+use crate::answer::{Answer, Report, State, ASLEEP};
+use crate::errno::Errno;
+use crate::event::Event;
+use crate::host::{identifier, Host, SLOTS};
+use crate::judge::{Array, Outcome, SEMAPHORES, VALUE_MAX};
+use crate::process::Process;
+use crate::queue::Sleeper;
+use crate::set::Set;
+
+impl Host {
+    pub fn handle(&mut self, event: &Event) -> Answer {
+        match *event {
+            Event::Create { count, read, alter } => self.create(count, read, alter).into(),
+            Event::Operate { process, identifier, operations } => {
+                self.operate(process, identifier, operations).into()
+            }
+            Event::SetValue { identifier, number, value } => {
+                self.set_value(identifier, number, value).into()
+            }
+            Event::Remove { identifier } => self.remove(identifier).into(),
+            Event::Signal { process } => self.signal(process).into(),
+            Event::Exit { process } => self.exit(process).into(),
+            Event::Query { identifier, number } => self.query(identifier, number).into(),
+        }
+    }
+
+    fn create(&mut self, count: u8, read: u8, alter: u8) -> Result<Report, Errno> {
+        if !(1..=SEMAPHORES as u8).contains(&count) {
+            return Err(Errno::Einval);
+        }
+        let slot = self.sets.iter().position(|set| !set.is_live()).ok_or(Errno::Enospc)?;
+        let set = &mut self.sets[slot];
+        set.count = count;
+        set.read = read;
+        set.alter = alter;
+        Ok(Report { value: identifier(slot, set), ..Report::default() })
+    }
+
+    fn operate(&mut self, process: u8, identifier: i32, bytes: &[u8]) -> Result<Report, Errno> {
+        let process = Process::new(process)?;
+        if self.queue.asleep() & process.bit() != 0 {
+            return Err(Errno::Ebusy);
+        }
+        let array = Array::read(bytes)?;
+        let slot = self.find(identifier)?;
+        self.sets[slot].admit(process, &array)?;
+        let (outcome, touched) = self.sets[slot].perform(process, &array);
+        match outcome {
+            Outcome::Refused(errno) => Err(errno),
+            Outcome::Sleep(_) => {
+                let names = array.names();
+                self.queue.push(process, Sleeper { slot, array, names });
+                Ok(Report::with_code(ASLEEP))
+            }
+            Outcome::Done => Ok(self.treated(slot, touched)),
+        }
+    }
+
+    fn set_value(&mut self, identifier: i32, number: u16, value: i32) -> Result<Report, Errno> {
+        let slot = self.find(identifier)?;
+        let set = &mut self.sets[slot];
+        let number = set.semaphore(number).ok_or(Errno::Einval)?;
+        if !(0..=VALUE_MAX).contains(&value) {
+            return Err(Errno::Erange);
+        }
+        // Touched even where the value is the same, since the adjustments may not be.
+        let touched = 1 << number;
+        set.values[number] = value;
+        for adjustments in &mut set.adjustments {
+            adjustments[number] = 0;
+        }
+        Ok(self.treated(slot, touched))
+    }
+
+    fn remove(&mut self, identifier: i32) -> Result<Report, Errno> {
+        let slot = self.find(identifier)?;
+        let generation = self.sets[slot].generation.wrapping_add(1);
+        self.sets[slot] = Set { generation, ..Set::FREE };
+        let mut report = Report::default();
+        while let Some(process) = self.queue.take_oldest_of_set(slot) {
+            report.wakings.push(process, Errno::Eidrm.number());
+        }
+        Ok(report)
+    }
+
+    fn signal(&mut self, process: u8) -> Result<Report, Errno> {
+        let process = Process::new(process)?;
+        let mut report = Report::default();
+        if self.queue.take_out(process) {
+            report.wakings.push(process, Errno::Eintr.number());
+        }
+        Ok(report)
+    }
+
+    /// Gives back the process's adjustments in all sets, then treats each live set.
+    fn exit(&mut self, process: u8) -> Result<Report, Errno> {
+        let process = Process::new(process)?;
+        let mut report = Report::default();
+        self.queue.take_out(process);
+        let mut touched = [0; SLOTS];
+        for (slot, set) in self.sets.iter_mut().enumerate() {
+            touched[slot] = set.undo(process);
+        }
+        for (slot, touched) in touched.into_iter().enumerate() {
+            if self.sets[slot].is_live() {
+                self.treat(slot, touched, &mut report);
+            }
+        }
+        Ok(report)
+    }
+
+    fn query(&self, identifier: i32, number: u16) -> Result<State, Errno> {
+        let slot = self.find(identifier)?;
+        let set = &self.sets[slot];
+        let index = set.semaphore(number).ok_or(Errno::Einval)?;
+        let mut state =
+            State { value: set.values[index], last: set.last[index], ..State::default() };
+        // Only who names the semaphore can stop there.
+        for (process, sleeper) in self.queue.naming(slot, 1 << index) {
+            if let Outcome::Sleep(stop) = set.outcome(process, &sleeper.array) {
+                let operation = sleeper.array.operations()[stop];
+                let bit = if operation.number == number { process.bit() } else { 0 };
+                if operation.amount < 0 {
+                    state.for_increase |= bit;
+                } else {
+                    state.for_zero |= bit;
+                }
+            }
+        }
+        Ok(state)
+    }
+}

@@ -1,0 +1,54 @@
+//! The host: what it holds.
+
+use crate::errno::Errno;
+use crate::queue::Queue;
+use crate::set::Set;
+
+pub const SLOTS: usize = 4;
+
+/// The rule by which a host looks at its sleepers.
+#[derive(Clone, Copy, Debug, PartialEq, Eq)]
+pub enum Rule {
+    Quick,
+    Plain,
+}
+
+#[derive(Clone, Debug)]
+pub struct Host {
+    pub(crate) rule: Rule,
+    pub(crate) sets: [Set; SLOTS],
+    pub(crate) queue: Queue,
+}
+
+impl Host {
+    /// A fresh host that wakes by `rule`.
+    pub fn new(rule: Rule) -> Host {
+        Host { rule, sets: [Set::FREE; SLOTS], queue: Queue::new() }
+    }
+
+    /// The live sets with their identifiers, from slot 0 up.
+    pub fn live_sets(&self) -> impl Iterator<Item = (i32, &Set)> {
+        let slots = self.sets.iter().enumerate();
+        slots.filter(|(_, set)| set.is_live()).map(|(slot, set)| (identifier(slot, set), set))
+    }
+
+    /// The processes asleep, as a mask.
+    pub fn asleep(&self) -> u8 {
+        self.queue.asleep()
+    }
+
+    /// The slot of the live set with this identifier.
+    pub(crate) fn find(&self, wanted: i32) -> Result<usize, Errno> {
+        let slot = (wanted & 3) as usize;
+        let set = &self.sets[slot];
+        if set.is_live() && wanted == identifier(slot, set) {
+            Ok(slot)
+        } else {
+            Err(Errno::Einval)
+        }
+    }
+}
+
+pub(crate) fn identifier(slot: usize, set: &Set) -> i32 {
+    slot as i32 + 4 * i32::from(set.generation)
+}

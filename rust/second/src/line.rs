@@ -1,0 +1,67 @@
+//! The lines that the program writes.
+
+use crate::answer::Answer;
+use crate::bad::Bad;
+
+/// The only line for a refused file.
+pub fn push_bad(text: &mut Vec<u8>, bad: Bad) {
+    text.extend_from_slice(b"bad ");
+    push_number(text, bad as i32);
+    text.push(b'\n');
+}
+
+/// The first line for a good file.
+pub fn push_events(text: &mut Vec<u8>, events: usize) {
+    text.extend_from_slice(b"events ");
+    push_number(text, events as i32);
+    text.push(b'\n');
+}
+
+/// The line of one event.
+pub fn push_answer(text: &mut Vec<u8>, position: usize, answer: &Answer) {
+    push_number(text, position as i32);
+    push_field(text, answer.code());
+    match answer {
+        Answer::Event(report) => {
+            push_field(text, report.value);
+            push_field(text, report.looks as i32);
+            for waking in report.wakings.as_slice() {
+                push_field(text, waking.process.into());
+                text.push(b'=');
+                push_number(text, waking.code.into());
+            }
+        }
+        Answer::Query(state) => {
+            push_field(text, state.value);
+            push_field(text, state.last.into());
+            push_field(text, state.for_increase.count_ones() as i32);
+            push_field(text, state.for_zero.count_ones() as i32);
+        }
+    }
+    text.push(b'\n');
+}
+
+fn push_field(text: &mut Vec<u8>, number: i32) {
+    text.push(b' ');
+    push_number(text, number);
+}
+
+/// Writes the number in decimal; most are a single digit.
+fn push_number(text: &mut Vec<u8>, number: i32) {
+    if number < 0 {
+        text.push(b'-');
+    }
+    let mut rest = number.unsigned_abs();
+    if rest < 10 {
+        text.push(b'0' + rest as u8);
+        return;
+    }
+    let mut digits = [0; 10];
+    let mut first = digits.len();
+    while rest > 0 {
+        first -= 1;
+        digits[first] = b'0' + (rest % 10) as u8;
+        rest /= 10;
+    }
+    text.extend_from_slice(&digits[first..]);
+}
