@@ -1,0 +1,72 @@
+-- The parts of the row that hold the sets: the set in a slot, and the list of all.
+use Prim.Native.Nat.{ℕ, zero, suc, _+_, _≤_, _<_}
+use native.Mathlib.Nat.{not-suc-le-zero, le-of-suc-le-suc, add-zero}
+use native.Mathlib.Omega.{arith}
+use mathlib.Core.Path.{_≡_, refl, sym, ap, ap₂, _∙_}
+use mathlib.Core.Logic.{_≢_, ⊎-elim}
+use mathlib.Core.List.{List, [], _∷_, map}
+use lib.ListN.{length, getD, set, length-set, length-map, List·getD-map}
+use lib.Seq.{getD-set-same, getD-set-other, ext-getD}
+use Rattle.model.specs.declared.Set.{Set}
+use Rattle.model.specs.Limits.{slots}
+use Rattle.model.specs.State.{Table, Sleeper, noSet}
+use Rattle.host.specs.Parts.{Part, generations, counts, readers, alterers, values, lasts, asleep, order, sleepsAt, sizes, names, arrays, Row, with, put}
+use Rattle.host.specs.Holding.{setAt, withSet, setsFrom, setsIn}
+use Rattle.host.proofs.PartLaws.{by-values}
+
+pub length-sets-in : (n : ℕ) (r : Row) (slot : ℕ) → length (setsFrom r slot n) ≡ n
+unfolding setsFrom
+length-sets-in zero r slot = refl
+length-sets-in (suc n) r slot = ap suc (length-sets-in n r (slot + 1))
+
+sets-from-at : (n : ℕ) (r : Row) (slot i : ℕ) → i < n → getD (setsFrom r slot n) i noSet ≡ setAt r (slot + i)
+unfolding setsFrom
+sets-from-at zero r slot i h = absurd (not-suc-le-zero h)
+sets-from-at (suc n) r slot zero h = rw add-zero
+sets-from-at (suc n) r slot (suc i) h = let e : slot + suc i ≡ slot + 1 + i = omega arith in rw e (sets-from-at n r (slot + 1) i (le-of-suc-le-suc h))
+
+-- the set in a slot
+pub set-in : (r : Row) (slot : ℕ) → slot < slots → getD (setsIn r) slot noSet ≡ setAt r slot
+set-in r slot h = let e : 0 + slot ≡ slot = omega arith in rw e at (sets-from-at slots r 0 slot h)
+
+-- the row holds these sets
+pub record Sets (r : Row) (l : List Set) : Type 0 where
+  pub size : length l ≡ slots
+  pub generation : r generations ≡ map (λ (s : Set). s .generation) l
+  pub count : r counts ≡ map (λ (s : Set). s .count) l
+  pub read : r readers ≡ map (λ (s : Set). s .read) l
+  pub alter : r alterers ≡ map (λ (s : Set). s .alter) l
+
+module _ {r : Row} {l : List Set} (k : Sets r l) where
+  pub set-of : (slot : ℕ) → setAt r slot ≡ getD l slot noSet
+  set-of slot =
+      let a = List·getD-map (λ (s : Set). s .generation) l slot noSet in
+      let b = List·getD-map (λ (s : Set). s .count) l slot noSet in
+      let c = List·getD-map (λ (s : Set). s .read) l slot noSet in
+      let d = List·getD-map (λ (s : Set). s .alter) l slot noSet in
+      rw (k .generation, k .count, k .read, k .alter, a, b, c, d)
+
+  pub sets-back : setsIn r ≡ l
+  sets-back =
+      ext-getD noSet (setsIn r) l (length-sets-in slots r 0 ∙ sym (k .size))
+      (λ i h. set-in r i (omega (arith, length-sets-in slots r 0)) ∙ set-of i)
+
+-- a set that is put into a slot
+set-put : (r : Row) (k : ℕ) (s : Set) (i : ℕ) → length (r generations) ≡ slots → length (r counts) ≡ slots → length (r readers) ≡ slots → length (r alterers) ≡ slots
+    → k < slots → setAt (withSet r k s) k ≡ s
+set-put r k s i a b c d h =
+    rw (
+      getD-set-same (r generations) k (s .generation) 0 (omega arith),
+      getD-set-same (r counts) k (s .count) 0 (omega arith),
+      getD-set-same (r readers) k (s .read) 0 (omega arith),
+      getD-set-same (r alterers) k (s .alter) 0 (omega arith),
+    )
+
+set-kept : (r : Row) (k : ℕ) (s : Set) (i : ℕ) → i ≢ k → setAt (withSet r k s) i ≡ setAt r i
+set-kept r k s i n =
+    rw (
+      getD-set-other (r generations) k i (s .generation) 0 n,
+      getD-set-other (r counts) k i (s .count) 0 n,
+      getD-set-other (r readers) k i (s .read) 0 n,
+      getD-set-other (r alterers) k i (s .alter) 0 n,
+    )

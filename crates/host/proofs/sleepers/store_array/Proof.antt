@@ -1,0 +1,85 @@
+use Prim.Native.Nat.{_+_, _-_, _*_}
+use mathlib.Core.Path.{refl, sym}
+use native.Mathlib.Omega.{arith}
+use lib.ListN.{take, length-take}
+use lib.Seq.{getD-take}
+use Rattle.model.specs.Limits.{arrayBytes}
+use Rattle.host.specs.Parts.{arrays, place}
+use Rattle.host.proofs.SleeperLaws.{Writing, write-none, write-byte, write-all, write-away}
+use borrow.Author.Needs.{needs}
+use Rattle.host.proofs.sleepers.store_array.Statement.{statement}
+use Rattle.host.proofs.sleepers.store_array.Tie as tie
+
+abbrev Inv-loop : tie.InvT-loop
+Inv-loop process bytes all₀ i from size j₀ all j = Writing arrays all₀ (arrayBytes * i) (take arrayBytes bytes) all j
+
+abbrev μ-loop : tie.MeasureT-loop
+μ-loop process bytes all₀ i from size j₀ all j = size - j
+
+entry-of-requires : tie.Need-entry-of-requires Inv-loop μ-loop
+entry-of-requires c κs = search needs
+
+mul-from : tie.Need-mul-from Inv-loop μ-loop
+mul-from c = search needs
+
+add-from : tie.Need-add-from Inv-loop μ-loop
+add-from c = search needs
+
+fitting-requires : tie.Need-fitting-requires Inv-loop μ-loop
+fitting-requires c κs = search needs
+
+loop-holds : tie.Need-loop-holds Inv-loop μ-loop
+loop-holds c = let a = c .before .before .before .before .before .args in write-none arrays (a .host .now) _ _ (search needs)
+
+shared-slice-read-byte : tie.Need-shared-slice-read-byte Inv-loop μ-loop
+shared-slice-read-byte c = search needs
+
+add-all : tie.Need-add-all Inv-loop μ-loop
+add-all c = search needs
+
+slice-write-all : tie.Need-slice-write-all Inv-loop μ-loop
+slice-write-all c = search needs
+
+add-j : tie.Need-add-j Inv-loop μ-loop
+add-j c = search needs
+
+loop-less : tie.Need-loop-less Inv-loop μ-loop
+loop-less c = search needs
+
+loop-again : tie.Need-loop-again Inv-loop μ-loop
+loop-again c =
+    let a = c .before .before .before .before .before .before .before .before .args in
+    let e = c .before .before .before .before .before .entry-of in
+    let l = c .before .before .loop in
+    let n = length-take arrayBytes (a .bytes .now) in
+    write-byte arrays (l .inv) _ (place arrays .at + arrayBytes * e .result) refl (omega (arith, n)) (omega (arith, n)) (sym (getD-take arrayBytes (a .bytes .now) (l .j) 0 (omega arith))) (c .shared-slice-known2 .given (l .j) .fits) refl
+
+returns : tie.Need-returns Inv-loop μ-loop
+returns c =
+    let a = c .before .before .before .before .before .before .before .args in
+    rw (← c .before .before .before .before .entry-of .ensures) (write-all arrays (c .before .loop .inv) (omega (arith, length-take arrayBytes (a .bytes .now))))
+
+returns-2 : tie.Need-returns-2 Inv-loop μ-loop
+returns-2 c =
+    let a = c .before .before .before .before .args in
+    rw (← c .before .entry-of .ensures) (write-away arrays (a .host .now) (arrayBytes * c .before .entry-of .result) (take arrayBytes (a .bytes .now)) (omega arith))
+
+pub store-array-spec : {M : Type 1} → statement M
+store-array-spec =
+    tie.close
+    (tie.spec
+    Inv-loop
+    μ-loop
+    entry-of-requires
+    mul-from
+    add-from
+    fitting-requires
+    loop-holds
+    shared-slice-read-byte
+    add-all
+    slice-write-all
+    add-j
+    loop-less
+    loop-again
+    returns
+    returns-2)

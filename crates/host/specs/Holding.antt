@@ -1,0 +1,136 @@
+-- How the row and the adjustments hold a state.
+use Prim.Native.Nat.{ℕ, zero, suc, _+_, _*_, _-_}
+use mathlib.Core.Path.{_≡_}
+use mathlib.Core.Bool.{cond}
+use mathlib.Core.List.{List, [], _∷_, _++_, map}
+use lib.Dec.{eqb}
+use lib.ListN.{length, getD, take, drop, replicate}
+use lib.IntN.{ℤ}
+use Rattle.model.specs.declared.Set.{Set}
+use Rattle.model.specs.Limits.{slots, processes, arrayBytes}
+use Rattle.model.specs.State.{Table, Sleeper, State}
+use Rattle.model.specs.Marks.{named}
+use Rattle.model.specs.Runs.{Reached}
+use Rattle.host.specs.Parts.{Part, generations, counts, readers, alterers, values, lasts, asleep, order, sleepsAt, sizes, names, arrays, Row, rowIn, with, put}
+
+-- ---- from a state to a row
+
+-- what the sleeper of a process has; the default if the process is awake
+unfoldable pub ofProcess : {A : Type 0} → A → (Sleeper → A) → ℕ → List Sleeper → A
+ofProcess d f p [] = d
+ofProcess d f p (s ∷ q) = cond (eqb (s .process) p) (f s) (ofProcess d f p q)
+
+-- .. of the n processes from p on
+unfoldable pub byProcess : (Sleeper → ℕ) → ℕ → ℕ → List Sleeper → List ℕ
+byProcess f zero p q = []
+byProcess f (suc n) p q = ofProcess 0 f p q ∷ byProcess f n (p + 1) q
+
+-- the array of a process in its bytes, zeros behind it
+abbrev pub blockOf : ℕ → List Sleeper → List ℕ
+blockOf p q = take arrayBytes (ofProcess [] (λ (s : Sleeper). s .array) p q ++ replicate arrayBytes 0)
+
+unfoldable pub blocksFrom : ℕ → ℕ → List Sleeper → List ℕ
+blocksFrom zero p q = []
+blocksFrom (suc n) p q = blockOf p q ++ blocksFrom n (p + 1) q
+
+-- the processes that sleep, oldest first, and zeros behind them
+unfoldable pub orderOf : List Sleeper → List ℕ
+orderOf q = map (λ (s : Sleeper). s .process) q ++ replicate (processes - length q) 0
+
+abbrev pub theSlot : Sleeper → ℕ
+theSlot s = s .slot
+
+abbrev pub theSize : Sleeper → ℕ
+theSize s = length (s .array)
+
+-- a row with another queue
+abbrev pub withQueue : Row → List Sleeper → Row
+withQueue r q generations = r generations
+withQueue r q counts = r counts
+withQueue r q readers = r readers
+withQueue r q alterers = r alterers
+withQueue r q values = r values
+withQueue r q lasts = r lasts
+withQueue r q asleep = length q ∷ []
+withQueue r q order = orderOf q
+withQueue r q sleepsAt = byProcess theSlot processes 1 q
+withQueue r q sizes = byProcess theSize processes 1 q
+withQueue r q names = byProcess named processes 1 q
+withQueue r q arrays = blocksFrom processes 1 q
+
+-- .. with other sets, and with other values and last processes
+abbrev pub withSets : Row → List Set → Row
+withSets r l =
+    with (with (with (with r generations (map (λ (s : Set). s .generation) l)) counts (map (λ (s : Set). s .count) l)) readers (map (λ (s : Set). s .read) l)) alterers (map (λ (s : Set). s .alter) l)
+
+abbrev pub withTable : Row → Table → Row
+withTable r t = with (with r values (t .values)) lasts (t .lasts)
+
+-- all that the host holds: what its row says, and the adjustments
+pub record Host : Type 0 where
+  pub row : Row
+  pub adjustments : List ℤ
+
+-- how it holds a state
+abbrev pub hostOf : State → Host
+hostOf s = record { row = withQueue (withTable (withSets (λ (p : Part). []) (s .sets)) (s .table)) (s .queue); adjustments = s .table .adjustments }
+
+-- a host with another table and queue: its sets stay
+abbrev pub hostWith : Host → Table → List Sleeper → Host
+hostWith x t q = record { row = withQueue (withTable (x .row) t) q; adjustments = t .adjustments }
+
+-- ---- from a host to its state
+
+-- the set in a slot
+abbrev pub setAt : Row → ℕ → Set
+setAt r slot =
+    record { generation = getD (r generations) slot 0; count = getD (r counts) slot 0; read = getD (r readers) slot 0; alter = getD (r alterers) slot 0 }
+
+-- .. replaced
+abbrev pub withSet : Row → ℕ → Set → Row
+withSet r slot s = put (put (put (put r generations slot (s .generation)) counts slot (s .count)) readers slot (s .read)) alterers slot (s .alter)
+
+unfoldable pub setsFrom : Row → ℕ → ℕ → List Set
+setsFrom r slot zero = []
+setsFrom r slot (suc n) = setAt r slot ∷ setsFrom r (slot + 1) n
+
+abbrev pub setsIn : Row → List Set
+setsIn r = setsFrom r 0 slots
+
+-- where a process stands in a part by process; beyond it for no process
+abbrev pub entry : ℕ → ℕ
+entry zero = processes
+entry (suc p) = p
+
+-- what a process sleeps with, replaced but for the array
+abbrev pub withCall : Row → ℕ → ℕ → ℕ → ℕ → Row
+withCall r p slot size mask = put (put (put r sleepsAt (entry p) slot) sizes (entry p) size) names (entry p) mask
+
+-- the array that a process sleeps on
+unfoldable pub arrayIn : Row → ℕ → List ℕ
+arrayIn r p = take (getD (r sizes) (entry p) 0) (take arrayBytes (drop (arrayBytes * entry p) (r arrays)))
+
+abbrev pub sleeperIn : Row → ℕ → Sleeper
+sleeperIn r p = record { process = p; slot = getD (r sleepsAt) (entry p) 0; array = arrayIn r p }
+
+-- how many sleep
+abbrev pub asleepIn : Row → ℕ
+asleepIn r = getD (r asleep) 0 0
+
+unfoldable pub queueIn : Row → List Sleeper
+queueIn r = map (sleeperIn r) (take (asleepIn r) (r order))
+
+abbrev pub tableIn : Host → Table
+tableIn x = record { values = x .row values; lasts = x .row lasts; adjustments = x .adjustments }
+
+abbrev pub stateIn : Host → State
+stateIn x = record { sets = setsIn (x .row); table = tableIn x; queue = queueIn (x .row) }
+
+-- the host that is lent: its bytes, and its adjustments
+abbrev pub hostIn : List ℕ → List ℤ → Host
+hostIn h adjustments = record { row = rowIn h; adjustments = adjustments }
+
+-- The one premise of a promise: the host holds a state that is fresh or came back from an event.
+pub record Held (x : Host) : Type 0 where
+  pub holds : x ≡ hostOf (stateIn x)
+  pub reached : Reached (stateIn x)

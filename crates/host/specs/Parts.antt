@@ -1,0 +1,119 @@
+-- The host is one row of bytes. This is the table of its parts; src/parts.rt has its twin.
+use Prim.Native.Nat.{ℕ, zero, suc, _+_, _*_, _/_, _%_}
+use mathlib.Core.Bool.{Bool, cond}
+use mathlib.Core.List.{List, [], _∷_}
+use lib.Dec.{eqb}
+use lib.ListN.{getD, set}
+use Rattle.model.specs.Limits.{slots, processes, arrayBytes, allSemaphores}
+
+pub data Part : Type 0 where
+  -- of each slot: its generation, its number of semaphores, and its two masks
+  generations : Part
+  counts : Part
+  readers : Part
+  alterers : Part
+  -- of each semaphore, by slot and number: its value and its last process
+  values : Part
+  lasts : Part
+  -- how many sleep, and their processes, oldest first
+  asleep : Part
+  order : Part
+  -- what a process sleeps with: the slot, the bytes of its array, and the mask of the semaphores that the array names
+  sleepsAt : Part
+  sizes : Part
+  names : Part
+  -- the bytes of the arrays
+  arrays : Part
+
+-- the parts in their order
+abbrev pub number : Part → ℕ
+number generations = 0
+number counts = 1
+number readers = 2
+number alterers = 3
+number values = 4
+number lasts = 5
+number asleep = 6
+number order = 7
+number sleepsAt = 8
+number sizes = 9
+number names = 10
+number arrays = 11
+
+-- how many bytes a number of a part has, and how many numbers the part has
+pub record Shape : Type 0 where
+  pub width : ℕ
+  pub count : ℕ
+
+abbrev pub shape : ℕ → ℕ → Shape
+shape width count = record { width = width; count = count }
+
+-- in the same order
+abbrev pub table : List Shape
+table =
+    shape 2 slots
+    ∷ shape 1 slots
+    ∷ shape 1 slots
+    ∷ shape 1 slots
+    ∷ shape 2 allSemaphores
+    ∷ shape 1 allSemaphores
+    ∷ shape 1 1
+    ∷ shape 1 processes
+    ∷ shape 1 processes
+    ∷ shape 1 processes
+    ∷ shape 1 processes
+    ∷ shape 1 (processes * arrayBytes)
+    ∷ []
+
+-- a part has its shape, and begins where the one before it ends
+pub record Place : Type 0 where
+  pub at : ℕ
+  pub shape : Shape
+
+abbrev pub placeFrom : ℕ → List Shape → ℕ → Place
+placeFrom at [] n = record { at = at; shape = shape 0 0 }
+placeFrom at (s ∷ ss) zero = record { at = at; shape = s }
+placeFrom at (s ∷ ss) (suc n) = placeFrom (at + s .width * s .count) ss n
+
+abbrev pub place : Part → Place
+place p = placeFrom 0 table (number p)
+
+abbrev pub behind : Place → ℕ
+behind p = p .at + p .shape .width * p .shape .count
+
+-- the bytes of the whole row
+abbrev pub hostBytes : ℕ
+hostBytes = behind (place arrays)
+
+-- ---- numbers in bytes
+
+-- the number of so many bytes from a place on, little-endian
+unfoldable pub numberAt : ℕ → List ℕ → ℕ → ℕ
+numberAt zero h at = 0
+numberAt (suc w) h at = getD h at 0 + 256 * numberAt w h (at + 1)
+
+-- the bytes of a number, as many as it has
+unfoldable pub bytesOf : ℕ → ℕ → List ℕ
+bytesOf zero x = []
+bytesOf (suc w) x = x % 256 ∷ bytesOf w (x / 256)
+
+-- so many numbers of a width, from a place on
+unfoldable pub numbersFrom : ℕ → ℕ → ℕ → List ℕ → List ℕ
+numbersFrom w at zero h = []
+numbersFrom w at (suc n) h = numberAt w h at ∷ numbersFrom w (at + w) n h
+
+-- ---- what the bytes say, part by part
+
+abbrev pub Row : Type 0
+Row = Part → List ℕ
+
+-- the numbers of a part in the host's bytes
+unfoldable pub rowIn : List ℕ → Row
+rowIn h p = numbersFrom (place p .shape .width) (place p .at) (place p .shape .count) h
+
+-- a row with one part replaced, and with one number of it
+abbrev pub with : Row → Part → List ℕ → Row
+with r p l = λ (q : Part). cond (eqb (number p) (number q)) l (r q)
+
+abbrev pub put : Row → Part → ℕ → ℕ → Row
+put r p i x = with r p (set (r p) i x)

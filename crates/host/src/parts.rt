@@ -1,0 +1,37 @@
+// The table of the row's parts: where each begins, behind the one before it, by the bytes of a number and how many numbers
+// there are. specs/Parts.antt has its twin.
+use model::ALL_BYTES;
+use model::ALL_SEMAPHORES;
+use model::PROCESSES;
+use model::SETS;
+
+// Of each slot: its generation (2 bytes), its number of semaphores, and its two masks.
+pub const GENERATIONS_AT: usize = 0;
+
+pub const COUNTS_AT: usize = GENERATIONS_AT + 2 * SETS;
+
+pub const READERS_AT: usize = COUNTS_AT + SETS;
+
+pub const ALTERERS_AT: usize = READERS_AT + SETS;
+
+// Of each semaphore, by slot and number: its value (2 bytes) and its last process.
+pub const VALUES_AT: usize = ALTERERS_AT + SETS;
+
+pub const LASTS_AT: usize = VALUES_AT + 2 * ALL_SEMAPHORES;
+
+// How many sleep, and their processes, oldest first.
+pub const ASLEEP_AT: usize = LASTS_AT + ALL_SEMAPHORES;
+
+pub const ORDER_AT: usize = ASLEEP_AT + 1;
+
+// What a process sleeps with: the slot, the bytes of its array, and the mask of the semaphores that the array names.
+pub const SLEEPS_AT: usize = ORDER_AT + PROCESSES;
+
+pub const SIZES_AT: usize = SLEEPS_AT + PROCESSES;
+
+pub const NAMES_AT: usize = SIZES_AT + PROCESSES;
+
+// The bytes of the arrays.
+pub const ARRAYS_AT: usize = NAMES_AT + PROCESSES;
+
+pub const HOST_BYTES: usize = ARRAYS_AT + ALL_BYTES;
