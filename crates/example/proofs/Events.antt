@@ -1,10 +1,14 @@
 -- The example's three events by the definitions: a set is made, a process sleeps, another wakes it with one look.
-use mathlib.Core.Path.{_≡_, refl}
-use mathlib.Core.List.{[], _∷_}
+use mathlib.Core.Path.{_≡_, refl, sym, ap, subst, _∙_}
+use Prim.Native.Nat.{ℕ}
+use mathlib.Core.List.{List, [], _∷_}
 use lib.IntN.{pos}
 use lib.ListN.{length}
 use Rattle.model.specs.declared.Engine.the-variants.{Quick}
 use Rattle.model.specs.State.{State, freshState}
+use Rattle.host.specs.Holding.{Host, hostOf, stateIn, Held}
+use Rattle.host.proofs.HeldLaws.{state-back, held-of}
+use Rattle.service.specs.After.{After, afterOf}
 use Rattle.model.specs.Runs.{Reached, start, came}
 use Rattle.model.specs.Operation.{signed16, operationsFrom, isZero}
 use Rattle.model.specs.Judge.{nextValue, nextAdjustment, step, goOn, judgeFrom, codeOf, finishes}
@@ -14,21 +18,52 @@ use Rattle.model.specs.Waking.{without, finish, plainRound, quickRound, plain, 
 use Rattle.model.specs.Checks.{identifierOf, slotOf, namesSet, noProcess, asleep, numberTooHigh, permitted, freeFrom, checkCreate, checkOperate, checkNumber, inRange, checkSetValue, checkRemove, checkProcess}
 use Rattle.model.specs.Events.{Result, create, operate, clearRows, cleared, clearNumber, assigned, cut, undoAll, exited, keep, endedWith, doCreate, operated, doOperate, doSetValue, doRemove, treat, treatFrom, touchedFrom, doExit, doQuery, event}
 
+-- one off semaphore 0, and one back
+abbrev take : List ℕ
+take = 0 ∷ 0 ∷ 255 ∷ 255 ∷ 0 ∷ 0 ∷ []
+
+abbrev give : List ℕ
+give = 0 ∷ 0 ∷ 1 ∷ 0 ∷ 0 ∷ 0 ∷ []
+
 -- the results that the definitions give for the three events
 abbrev pub created : Result
 created = event (waker Quick) freshState (create 1 255 255)
 
 abbrev pub slept : Result
-slept = event (waker Quick) (created .state) (operate 1 (pos 0) (0 ∷ 0 ∷ 255 ∷ 255 ∷ 0 ∷ 0 ∷ []))
+slept = event (waker Quick) (created .state) (operate 1 (pos 0) take)
 
 abbrev pub given : Result
-given = event (waker Quick) (slept .state) (operate 2 (pos 0) (0 ∷ 0 ∷ 1 ∷ 0 ∷ 0 ∷ 0 ∷ []))
+given = event (waker Quick) (slept .state) (operate 2 (pos 0) give)
 
 pub after-create : Reached (created .state)
 after-create = came start Quick (create 1 255 255)
 
 pub after-sleep : Reached (slept .state)
 after-sleep = came after-create Quick _
+
+-- ---- what is left behind each event, of a host that is as the one before it left it
+
+-- such a host may be lent, and holds the state
+module _ {s : State} (k : Reached s) {x : Host} (e : x ≡ hostOf s) where
+  pub held : Held x
+  held = subst Held (sym e) (held-of k)
+
+  state : stateIn x ≡ s
+  state = ap stateIn e ∙ state-back k
+
+pub is-created : {x : Host} {a : After} → x ≡ hostOf freshState → a ≡ afterOf (doCreate (stateIn x) 1 255 255) → a ≡ afterOf created
+unfolding event
+is-created e r = r ∙ ap (λ (s : State). afterOf (doCreate s 1 255 255)) (state start e)
+
+pub is-slept : {x : Host} {a : After} → x ≡ hostOf (created .state) → a ≡ afterOf (doOperate (waker Quick) (stateIn x) 1 (pos 0) take) → a ≡ afterOf slept
+unfolding event
+is-slept e r = r ∙ ap (λ (s : State). afterOf (doOperate (waker Quick) s 1 (pos 0) take)) (state after-create e)
+
+pub is-given : {x : Host} {a : After} → x ≡ hostOf (slept .state) → a ≡ afterOf (doOperate (waker Quick) (stateIn x) 2 (pos 0) give) → a ≡ afterOf given
+unfolding event
+is-given e r = r ∙ ap (λ (s : State). afterOf (doOperate (waker Quick) s 2 (pos 0) give)) (state after-sleep e)
+
+-- ---- what the three events give, computed
 
 pub slept-looks : slept .looks ≡ 0
 unfolding event doCreate operated doOperate doSetValue doRemove treat treatFrom touchedFrom doExit doQuery identifierOf slotOf namesSet noProcess asleep numberTooHigh permitted freeFrom checkCreate checkOperate checkNumber inRange checkSetValue checkRemove checkProcess clearRows cleared clearNumber assigned cut undoAll exited keep endedWith waker plain quick plainRound quickRound finish without look lastsAfter applied after valuesOf adjustmentsOf judgeFrom goOn step nextValue nextAdjustment codeOf finishes operationsFrom signed16 isZero unmark marked namedBy differing mine maskOf

@@ -1,23 +1,41 @@
-// How a program uses the service: it holds a host, hands it to each event, and goes on with the host that comes back.
+// How a program uses the service: it holds a host, its adjustments and a list for the wakings, and lends them to each event.
 //
 // Two predictors share semaphore 0 of a set. The first wants it while it is taken and sleeps; the second gives it back, and
 // the first is woken. That each check below holds is proved from the events' promises alone.
 use libc::STDOUT_FILENO;
 use model::Engine;
+use model::WAKING_BYTES;
+use service::create;
+use service::operate;
 
 fn main() {
     let take = [0u8, 0, 255, 255, 0, 0];
     let give = [0u8, 0, 1, 0, 0, 0];
-    let fresh = model::fresh();
-    let made = service::create(fresh, 1, 255, 255);
-    let host = made.host;
-    let asleep = service::operate(Engine::Quick, host, 1, 0, &take);
-    let host = asleep.host;
+    let mut host = host::fresh();
+    let mut adjustments = host::no_adjustments();
+    let mut wakings = [0u8; WAKING_BYTES];
+    create(&mut host, &mut adjustments, &mut wakings, 1, 255, 255);
+    let asleep = operate(
+        &mut host,
+        &mut adjustments,
+        &mut wakings,
+        Engine::Quick,
+        1,
+        0,
+        &take,
+    );
     check::expect(asleep.looks == 0);
-    let given = service::operate(Engine::Quick, host, 2, 0, &give);
-    let wakings = given.wakings;
-    check::expect(wakings.count == 1);
+    let given = operate(
+        &mut host,
+        &mut adjustments,
+        &mut wakings,
+        Engine::Quick,
+        2,
+        0,
+        &give,
+    );
+    check::expect(given.woken == 1);
     check::expect(given.looks == 1);
-    io::print_decimal(STDOUT_FILENO, wakings.count as u64);
+    io::print_decimal(STDOUT_FILENO, given.woken as u64);
     io::write_all(STDOUT_FILENO, b" woken\n");
 }

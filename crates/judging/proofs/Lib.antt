@@ -1,7 +1,11 @@
--- Laws that belong to no one function.
+-- Laws that belong to no one function. The public ones are for those who call judge and names_of.
 mod Signed
 mod Values
 mod Operations
-mod Turn
+mod Steps
+mod Walking
+pub mod WalkLaws
+pub mod NamedLaws
+mod Refusals
 mod Masks
-mod Identifiers
+pub mod Identifiers

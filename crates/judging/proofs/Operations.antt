@@ -5,12 +5,22 @@ use mathlib.Core.List.{List, [], _∷_}
 use Prim.Native.Nat.{ℕ, suc, _+_, _*_, _-_, _/_, _<_}
 use native.Mathlib.Omega.{arith}
 use lib.Dec.{leb}
-use lib.ListN.{length}
+use lib.ListN.{length, getD}
+use lib.IntN.{ℤ}
 use Rattle.model.specs.declared.Set.{Set}
 use Rattle.model.specs.declared.Operation.{Operation}
-use Rattle.model.specs.Operation.{operationAt, operationsFrom, operationsOf, hasBit, isZero}
+use Rattle.model.specs.Operation.{two, signed16, operationAt, operationsFrom, operationsOf, hasBit, isZero}
 use Rattle.model.specs.Marks.{bitOf}
 use Rattle.model.specs.Checks.{numberTooHigh, permitted}
+
+-- an operation, from what its six bytes are read as
+pub read-as : (bytes : List ℕ) (at : ℕ) (number raw flags : ℕ) (amount : ℤ)
+    → number ≡ two (getD bytes at 0) (getD bytes (at + 1) 0)
+    → raw ≡ two (getD bytes (at + 2) 0) (getD bytes (at + 3) 0)
+    → amount ≡ signed16 raw
+    → flags ≡ two (getD bytes (at + 4) 0) (getD bytes (at + 5) 0)
+    → _≡_ {A = Operation} (record { number = number; amount = amount; flags = flags }) (operationAt bytes at)
+read-as bytes at number raw flags amount n r a f = rw (n, a, r, f)
 
 -- the operations from the i-th on
 abbrev pub rest : List ℕ → ℕ → List Operation

@@ -1,15 +1,15 @@
 -- Signed numbers of sixteen bits in thirty-two: sums fit, and a widened number is the number.
 use mathlib.Core.Path.{_≡_, refl, sym, _∙_, ap}
-use mathlib.Core.Bool.{Bool, true, false, cond}
+use mathlib.Core.Bool.{Bool, true, false, cond, not}
 use Prim.Native.Nat.{ℕ, zero, suc, _+_, _-_, _^_, _<_, _≤_}
 use native.Mathlib.Omega.{arith}
 use lib.Dec.{T, ltb}
-use lib.IntN.{ℤ, pos, negsuc, natAbs, negℤ, subℕ, _+ℤ_, _-ℤ_}
-use lib.Signed.{mag, ltZ, nonNeg, natAbs-le}
+use lib.IntN.{ℤ, pos, negsuc, natAbs, negℤ, subℕ, _+ℤ_, _-ℤ_, +ℤ-idl, negℤ-negℤ}
+use lib.Signed.{mag, ltZ, leZ, nonNeg, natAbs-le}
 use mir.Syntax.{w16, w32}
 use mir.Val.{SFits, Fits, toZ, ofZ}
 use mir.Facts.{toZ-ofZ, toZ-pos, sfits-widen}
-use borrow.Author.Tests.{ltb-true, ltb-false, lt-ltb}
+use borrow.Author.Tests.{ltb-true, ltb-false, leb-true, leb-false, lt-ltb, le-ltb}
 
 -- a test that has both answers
 pub clash {ℓ} : {X : Type ℓ} → false ≡ true → X
@@ -80,12 +80,30 @@ module _ {a z : ℤ} (k : SFits w16 a) (h : SFits w16 z) where
   pub difference-is : toZ w32 (ofZ w32 (widened a -ℤ widened z)) ≡ a -ℤ z
   difference-is = toZ-ofZ difference-fits ∙ rw (wide-is k, wide-is h)
 
+-- a value, and an amount, taken off 0; and that off a value again
+module _ {v : ℕ} (f : Fits w16 v) where
+  pub minus-fits : SFits w32 (pos 0 -ℤ toZ w32 v)
+  minus-fits = rw (value-is f) (small (pos 0 -ℤ pos v) (omega (arith, size-add (pos 0) (negℤ (pos v)), size-neg (pos v), f .fits)))
+
+  pub minus-is : toZ w32 (ofZ w32 (pos 0 -ℤ toZ w32 v)) ≡ pos 0 -ℤ pos v
+  minus-is = toZ-ofZ minus-fits ∙ rw (value-is f)
+
 module _ {z : ℤ} (h : SFits w16 z) where
   pub magnitude-fits : SFits w32 (pos 0 -ℤ widened z)
   magnitude-fits = rw (wide-is h) (small (pos 0 -ℤ z) (omega (arith, size-add (pos 0) (negℤ z), size-neg z, size16 h)))
 
-  pub magnitude-is : toZ w32 (ofZ w32 (pos 0 -ℤ widened z)) ≡ pos 0 -ℤ z
+  magnitude-is : toZ w32 (ofZ w32 (pos 0 -ℤ widened z)) ≡ pos 0 -ℤ z
   magnitude-is = toZ-ofZ magnitude-fits ∙ rw (wide-is h)
+
+  module _ {v : ℕ} (f : Fits w16 v) where
+    less-is : toZ w32 v -ℤ toZ w32 (ofZ w32 (pos 0 -ℤ widened z)) ≡ pos v +ℤ z
+    less-is = rw (value-is f, magnitude-is, +ℤ-idl (negℤ z), negℤ-negℤ z)
+
+    pub less-fits : SFits w32 (toZ w32 v -ℤ toZ w32 (ofZ w32 (pos 0 -ℤ widened z)))
+    less-fits = rw less-is (small (pos v +ℤ z) (omega (arith, size-add (pos v) z, size16 h, f .fits)))
+
+    pub moved-is : toZ w32 (ofZ w32 (toZ w32 v -ℤ toZ w32 (ofZ w32 (pos 0 -ℤ widened z)))) ≡ pos v +ℤ z
+    moved-is = toZ-ofZ less-fits ∙ less-is
 
 -- ---- what can be cast back
 
@@ -93,6 +111,15 @@ module _ {z : ℤ} (h : SFits w16 z) where
 pub between : (z : ℤ) → ltZ z (negsuc 32766) ≡ false → ltZ (pos 32767) z ≡ false → SFits w16 z
 between (pos n) h k = record { sfits = omega (arith, ltb-false 32767 n k) }
 between (negsuc n) h k = record { sfits = omega (arith, ltb-false 32766 n h) }
+
+-- a test of at most, as one of less
+pub at-most : (a b : ℤ) (t : Bool) → leZ a b ≡ t → ltZ b a ≡ not t
+at-most (pos m) (pos n) true e = le-ltb n m (leb-true m n e)
+at-most (pos m) (pos n) false e = lt-ltb n m (leb-false m n e)
+at-most (pos m) (negsuc n) t e = rw (← e)
+at-most (negsuc m) (pos n) t e = rw (← e)
+at-most (negsuc m) (negsuc n) true e = le-ltb m n (leb-true n m e)
+at-most (negsuc m) (negsuc n) false e = lt-ltb m n (leb-false n m e)
 
 -- what is not below 0 and at most 32,767 can be cast to sixteen bits without a sign
 pub unsigned : (z : ℤ) → ltZ z (pos 0) ≡ false → ltZ (pos 32767) z ≡ false → T (nonNeg z) × Fits w16 (natAbs z)

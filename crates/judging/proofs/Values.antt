@@ -1,58 +1,62 @@
 -- The model's definitions on amounts, by the tests that the code makes of a signed number.
-use mathlib.Core.Path.{_≡_, refl, sym, _∙_, ap}
-use mathlib.Core.Bool.{true, false}
+use mathlib.Core.Path.{_≡_, refl, sym, _∙_}
+use mathlib.Core.Bool.{Bool, true, false, cond, _&&_}
 use Prim.Native.Nat.{ℕ, zero, suc, _+_, _-_, _<_}
 use native.Mathlib.Nat.{zero-add}
 use native.Mathlib.Omega.{arith}
 use lib.Dec.{T, ltb, eqb}
-use lib.IntN.{ℤ, pos, negsuc, natAbs, _+ℤ_, _-ℤ_}
+use lib.IntN.{ℤ, pos, negsuc, natAbs, negℤ, _+ℤ_, _-ℤ_, +ℤ-idl}
 use lib.Signed.{ltZ, nonNeg}
 use mir.Syntax.{w16}
 use mir.Val.{SFits, Fits, toZ, ofZ}
 use mir.Facts.{toZ-ofZ}
-use borrow.Author.Tests.{ltb-false, le-ltb, ne-eqb}
+use borrow.Author.Tests.{lt-ltb, le-ltb, ne-eqb}
+use Rattle.model.specs.declared.Next.{Next}
 use Rattle.model.specs.declared.Next.the-variants.{Over, Stop, To}
 use Rattle.model.specs.Operation.{isZero, isNegative}
-use Rattle.model.specs.Judge.{nextValue}
+use Rattle.model.specs.declared.Undo.the-variants as undo
+use Rattle.model.specs.Judge.{nextValue, nextAdjustment}
 use Rattle.judging.proofs.Signed.{clash}
 
-module _ (v : ℕ) where
-  -- ---- an amount above 0
-  pub over : (z : ℤ) → ltZ (pos 0) z ≡ true → ltZ (pos 32767) (pos v +ℤ z) ≡ true → Over ≡ nextValue v z
-  unfolding nextValue
-  over (pos zero) h k = clash h
-  over (pos (suc n)) h k = rw k
-  over (negsuc n) h k = clash h
+-- where an amount leads from a value, as the code takes it: an amount of 0 takes the value off
+abbrev pub moved : ℕ → ℤ → ℤ
+moved v z = cond (isZero z) (pos 0 -ℤ pos v) (pos v +ℤ z)
 
-  pub up : (z : ℤ) → ltZ (pos 0) z ≡ true → ltZ (pos 32767) (pos v +ℤ z) ≡ false → To (natAbs (pos v +ℤ z)) ≡ nextValue v z
-  unfolding nextValue
-  up (pos zero) h k = clash h
-  up (pos (suc n)) h k = rw k
-  up (negsuc n) h k = clash h
+-- the next value by the tests of where the amount leads
+abbrev pub tested : ℤ → ℤ → Next
+tested new z = cond (ltZ new (pos 0)) Stop (cond (ltZ (pos 32767) new && ltZ (pos 0) z) Over (To (natAbs new)))
 
-  pub up-fits : (z : ℤ) → ltZ (pos 0) z ≡ true → ltZ (pos 32767) (pos v +ℤ z) ≡ false → T (nonNeg (pos v +ℤ z)) × Fits w16 (natAbs (pos v +ℤ z))
-  up-fits (pos n) h k = (tt, record { fits = omega (arith, ltb-false 32767 (v + n) k) })
-  up-fits (negsuc n) h k = clash h
+pub next-is : (v : ℕ) (z : ℤ) → nextValue v z ≡ tested (moved v z) z
+unfolding nextValue isZero
+next-is zero (pos zero) = refl
+next-is (suc v) (pos zero) = rw (ne-eqb (suc v) 0 (λ e. omega arith), lt-ltb 0 (suc v) (omega arith))
+next-is v (pos (suc n)) = rw (ne-eqb (suc n) 0 (λ e. omega arith), le-ltb (v + suc n) 0 (omega arith), lt-ltb 0 (suc n) (omega arith)) (above (ltb 32767 (v + suc n)))
+  where
+    above : (b : Bool) → cond b Over (To (v + suc n)) ≡ cond (b && true) Over (To (v + suc n))
+    above true = refl
+    above false = refl
+next-is v (negsuc n) = lowered (ltb v (suc n))
+  where
+    either : (b : Bool) → To (v - suc n) ≡ cond (b && false) Over (To (v - suc n))
+    either true = refl
+    either false = refl
 
-  -- ---- an amount below 0
-  pub stop : (z : ℤ) → ltZ z (pos 0) ≡ true → ltZ (pos v) (pos 0 -ℤ z) ≡ true → Stop ≡ nextValue v z
-  unfolding nextValue
-  stop (pos n) h k = clash (sym (le-ltb n 0 (omega arith)) ∙ h)
-  stop (negsuc n) h k = rw (rw zero-add at k)
+    lowered : (b : Bool) → cond b Stop (To (v - suc n)) ≡ tested (cond b (negsuc (suc n - suc v)) (pos (v - suc n))) (negsuc n)
+    lowered true = refl
+    lowered false = rw (le-ltb (v - suc n) 0 (omega arith)) (either (ltb 32767 (v - suc n)))
 
-  pub down : (z : ℤ) → ltZ z (pos 0) ≡ true → ltZ (pos v) (pos 0 -ℤ z) ≡ false → To (natAbs (pos v +ℤ z)) ≡ nextValue v z
-  unfolding nextValue
-  down (pos n) h k = clash (sym (le-ltb n 0 (omega arith)) ∙ h)
-  down (negsuc n) h k = rw (rw zero-add at k)
-
-  pub down-fits : (z : ℤ) → Fits w16 v → ltZ z (pos 0) ≡ true → ltZ (pos v) (pos 0 -ℤ z) ≡ false → T (nonNeg (pos v +ℤ z)) × Fits w16 (natAbs (pos v +ℤ z))
-  down-fits (pos n) f h k = clash (sym (le-ltb n 0 (omega arith)) ∙ h)
-  down-fits (negsuc n) f h k = rw (rw zero-add at k) (tt, record { fits = omega arith })
-
--- ---- an amount of 0
-pub none : (z : ℤ) → ltZ (pos 0) z ≡ false → ltZ z (pos 0) ≡ false → z ≡ pos 0
-none (pos n) h k = ap pos (omega (arith, ltb-false 0 n h))
-none (negsuc n) h k = clash (sym k)
+-- where an amount that is not above 0 leads can be cast to sixteen bits, if it is not below 0
+pub lowered-fits : (v : ℕ) (z : ℤ) → Fits w16 v → ltZ (moved v z) (pos 0) ≡ false → ltZ (pos 0) z ≡ false → T (nonNeg (moved v z)) × Fits w16 (natAbs (moved v z))
+unfolding isZero
+lowered-fits zero (pos zero) f h k = (tt, record { fits = omega arith })
+lowered-fits (suc v) (pos zero) f h k = clash (sym (rw (lt-ltb 0 (suc v) (omega arith)) at h))
+lowered-fits v (pos (suc n)) f h k = clash (sym k ∙ lt-ltb 0 (suc n) (omega arith))
+lowered-fits v (negsuc n) f h k = go (ltb v (suc n)) h
+  where
+    go : (b : Bool) → ltZ (cond b (negsuc (suc n - suc v)) (pos (v - suc n))) (pos 0) ≡ false
+        → T (nonNeg (cond b (negsuc (suc n - suc v)) (pos (v - suc n)))) × Fits w16 (natAbs (cond b (negsuc (suc n - suc v)) (pos (v - suc n))))
+    go true e = clash (sym e)
+    go false e = (tt, record { fits = omega (arith, f .fits) })
 
 -- ---- the sign of an amount, by its sixteen bits
 pub zero-is : {z : ℤ} → SFits w16 z → eqb (ofZ w16 z) 0 ≡ isZero z
@@ -70,3 +74,21 @@ negative-is {z} h = rw (toZ-ofZ h) (below z)
     below : (y : ℤ) → ltZ y (pos 0) ≡ isNegative y
     below (pos n) = le-ltb n 0 (omega arith)
     below (negsuc n) = refl
+
+-- ---- from 0: what is taken off stops, and what is added fits, with its adjustment
+pub off-zero : (z : ℤ) → isNegative z ≡ true → nextValue 0 z ≡ Stop
+unfolding nextValue isNegative
+off-zero (pos n) h = clash h
+off-zero (negsuc n) h = rw (lt-ltb 0 (suc n) (omega arith))
+
+pub onto-zero : (z : ℤ) → SFits w16 z → isNegative z ≡ false → nextValue 0 z ≡ To (natAbs z)
+unfolding nextValue isNegative
+onto-zero (pos zero) f h = refl
+onto-zero (pos (suc n)) f h = rw (zero-add, le-ltb 32767 (suc n) (omega (arith, f .sfits)))
+onto-zero (negsuc n) f h = clash (sym h)
+
+pub undo-zero : (z : ℤ) → SFits w16 z → isNegative z ≡ false → nextAdjustment (pos 0) z ≡ undo.To (negℤ z)
+unfolding nextAdjustment isNegative
+undo-zero (pos zero) f h = refl
+undo-zero (pos (suc n)) f h = rw (+ℤ-idl (negsuc n), le-ltb 32766 n (omega (arith, f .sfits)))
+undo-zero (negsuc n) f h = clash (sym h)

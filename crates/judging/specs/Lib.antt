@@ -1,3 +1,4 @@
 -- Definitions of this crate's own functions.
-pub mod Fate
 pub mod Value
+pub mod Walk
+pub mod Named

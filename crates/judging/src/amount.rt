@@ -1,6 +1,8 @@
 // What an amount makes of a value and of an adjustment. Sums and magnitudes are taken in 32 bits, where none of them wraps:
 // the magnitude of -32,768 is 32,768.
 ghost use mathlib.Core.Path.{_≡_};
+ghost use mathlib.Core.Bool.{cond};
+ghost use lib.IntN.{pos, _+ℤ_, _-ℤ_};
 ghost use Rattle.model.specs.Operation.{isZero, isNegative};
 ghost use Rattle.model.specs.Judge.{nextValue, nextAdjustment};
 ghost use Rattle.model.specs.Events.{cut as cutTo};
@@ -25,29 +27,30 @@ pub fn is_negative(amount: i16) -> bool
     amount < 0
 }
 
-// The value with the amount added, or why there is none.
+// Where an amount leads from a value: below 0 if the value is smaller than the magnitude of an amount below 0, and, at an
+// amount of 0, if it is any but 0.
+fn moved(value: u16, amount: i16) -> i32
+    ensures { λ r. ⌜ r ≡ cond (isZero amount) (pos 0 -ℤ pos value) (pos value +ℤ amount) ⌝ }
+{
+    let old = value as i32;
+    let needed = 0 - (amount as i32);
+    if amount == 0 { 0 - old } else { old - needed }
+}
+
+// The value with the amount added, or why there is none. The common case is one test of the range. A value above it can only
+// be lowered.
 pub fn next_value(value: u16, amount: i16) -> Next
     ensures { λ r. ⌜ r ≡ nextValue value amount ⌝ }
 {
-    let old = value as i32;
-    let new = old + (amount as i32);
-    if 0 < amount {
-        if MOST < new {
-            Next::Over
-        } else {
-            Next::To(new as u16)
-        }
-    } else if amount < 0 {
-        let magnitude = 0 - (amount as i32);
-        if old < magnitude {
-            Next::Stop
-        } else {
-            Next::To(new as u16)
-        }
-    } else if value == 0 {
-        Next::To(value)
-    } else {
+    let new = moved(value, amount);
+    if 0 <= new && new <= MOST {
+        Next::To(new as u16)
+    } else if new < 0 {
         Next::Stop
+    } else if 0 < amount {
+        Next::Over
+    } else {
+        Next::To(new as u16)
     }
 }
 

@@ -1,32 +1,14 @@
-// The tests on an array's operations that come before judging. Both go through the array to the first operation that
-// decides.
+// The tests on an array's operations that come before judging, in one walk.
 ghost use mathlib.Core.Path.{_≡_};
-ghost use mathlib.Core.Bool.{cond};
-ghost use Prim.Native.Nat.{_%_};
+ghost use mathlib.Core.Bool.{cond, not};
+ghost use Prim.Native.Nat.{ℕ, _%_};
 ghost use Rattle.model.specs.Operation.{operationsOf, hasBit, isZero};
 ghost use Rattle.model.specs.Marks.{bitOf};
-ghost use Rattle.model.specs.Checks.{numberTooHigh, permitted as permittedTo};
+ghost use Rattle.model.specs.Checks.{check, numberTooHigh, permitted as permittedTo};
 use crate::amount::is_zero;
 use crate::operation::operation_at;
 use model::OPERATION_BYTES;
 use model::PROCESSES;
-use model::Set;
-
-// Is a number at or above the count?
-pub fn number_too_high(count: u8, bytes: &[u8]) -> bool
-    ensures { λ r. ⌜ r ≡ numberTooHigh count (operationsOf (now (bytes .entry))) ⌝ }
-{
-    let operations = bytes.len() / OPERATION_BYTES;
-    let mut i: usize = 0;
-    while i < operations {
-        let operation = operation_at(bytes, i * OPERATION_BYTES);
-        if count as u16 <= operation.number {
-            return true;
-        }
-        i += 1;
-    }
-    false
-}
 
 // The bit of a process in a mask of eight: none above the eighth, and at 0 the first, as in the definition.
 pub fn bit_of(process: u8) -> u8
@@ -48,26 +30,32 @@ pub fn has_bit(mask: u8, bit: u8) -> bool
     mask & bit != 0
 }
 
-// The mask that an amount needs the process in: the readers for zero, else those who alter.
-fn needed(set: Set, amount: i16) -> u8
-    ensures { λ r. ⌜ r ≡ cond (isZero amount) (set .read) (set .alter) ⌝ }
+// May the process do an operation of this amount?
+fn may(amount: i16, read: bool, alter: bool) -> bool
+    ensures { λ r. ⌜ r ≡ cond (isZero amount) read alter ⌝ }
 {
-    if is_zero(amount) { set.read } else { set.alter }
+    if is_zero(amount) { read } else { alter }
 }
 
-// Has the process the bits that all the operations need?
-pub fn permitted(process: u8, set: Set, bytes: &[u8]) -> bool
-    ensures { λ r. ⌜ r ≡ permittedTo process set (operationsOf (now (bytes .entry))) ⌝ }
+// The code of the first check of the operations that applies, in one walk: 27 for a number at or above the count, else 13 for
+// a process without the bits that they need; 0 if neither.
+pub fn check_array(process: u8, count: u8, read: u8, alter: u8, bytes: &[u8]) -> u8
+    ensures { λ r. ⌜ ((generation : ℕ) → r ≡ check (numberTooHigh count (operationsOf (now (bytes .entry)))) 27 (check (not (permittedTo process (record { generation = generation; count = count; read = read; alter = alter }) (operationsOf (now (bytes .entry))))) 13 0)) ⌝ }
 {
     let bit = bit_of(process);
+    let reads = has_bit(read, bit);
+    let alters = has_bit(alter, bit);
+    let past = count as u16;
     let operations = bytes.len() / OPERATION_BYTES;
+    let mut allowed = true;
     let mut i: usize = 0;
     while i < operations {
         let operation = operation_at(bytes, i * OPERATION_BYTES);
-        if !has_bit(needed(set, operation.amount), bit) {
-            return false;
+        if past <= operation.number {
+            return 27;
         }
+        allowed = allowed & may(operation.amount, reads, alters);
         i += 1;
     }
-    true
+    if allowed { 0 } else { 13 }
 }

@@ -1,11 +1,10 @@
 // What signed 32-bit numbers stand for: an identifier for a set, a value for the sixteen bits of a semaphore, and a code.
 ghost use mathlib.Core.Path.{_≡_};
 ghost use lib.IntN.{pos};
-ghost use Rattle.model.specs.Checks.{slotOf, namesSet, inRange};
+ghost use Rattle.model.specs.Checks.{slotOf, inRange};
 ghost use Rattle.judging.specs.Value.{valueOf};
 use crate::amount::MOST;
 use model::SETS;
-use model::Set;
 
 // The slot in an identifier.
 pub fn slot_of(identifier: i32) -> usize
@@ -16,19 +15,6 @@ pub fn slot_of(identifier: i32) -> usize
     } else {
         (identifier as usize) % SETS
     }
-}
-
-// Does an identifier name a live set?
-pub fn names_set(sets: [Set; SETS], identifier: i32) -> bool
-    ensures { λ r. ⌜ r ≡ namesSet sets identifier ⌝ }
-{
-    if identifier < 0 {
-        return false;
-    }
-    let wide = identifier as usize;
-    let slot = wide % SETS;
-    let set = sets[slot];
-    0 < set.count && set.generation as usize == wide / SETS
 }
 
 // Is a value 0 to 32,767?

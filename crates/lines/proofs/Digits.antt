@@ -2,15 +2,23 @@
 use Prim.Native.Nat.{ℕ, zero, suc, _+_, _/_, _%_, _^_, _<_, _≤_}
 use mathlib.Core.Path.{_≡_, refl, ap, _∙_}
 use mathlib.Core.Bool.{Bool, true, false, cond}
-use mathlib.Core.List.{[], _∷_, _++_}
+use mathlib.Core.List.{List, [], _∷_, _++_, append-assoc}
 use native.Mathlib.Nat.{div-lt-iff-lt-mul, pow-suc}
 use native.Mathlib.Omega.{arith}
 use lib.Dec.{T, leb, ltb, leb→le}
 use lib.ListN.{length, length-append}
 use mir.Syntax.{Width}
-use mir.Val.{Fits, bits}
-use borrow.Author.Tests.{lt-ltb, le-ltb, ltb-true, ltb-false}
+use mir.Val.{Fits, bits, boolByte}
+use borrow.Author.Tests.{lt-ltb, le-ltb, ltb-true, ltb-false, leb-true, leb-false}
 use Rattle.lines.specs.Text.{digit, digitsIn, digitsOf}
+
+-- a byte before a text, if it is due
+abbrev pub lead : Bool → ℕ → List ℕ → List ℕ
+lead t b s = cond t (b ∷ s) s
+
+pub length-lead : (t : Bool) (b : ℕ) (s : List ℕ) → length (lead t b s) ≡ boolByte t + length s
+length-lead true b s = omega arith
+length-lead false b s = omega arith
 
 -- the digits do not depend on the bound
 same : (f g n : ℕ) → n ≤ f → n ≤ g → digitsIn f n ≡ digitsIn g n
@@ -38,6 +46,9 @@ digits-more zero h = absurd (no h)
     no z = omega arith
 digits-more (suc n) h = rw (le-ltb (suc n) 10 h) (ap (λ l. l ++ digit (suc n % 10) ∷ []) (same n (suc n / 10) (suc n / 10) (omega arith) (omega arith)))
 
+digits-two : (n : ℕ) → 10 ≤ n → n < 100 → digitsOf n ≡ digit (n / 10) ∷ digit (n % 10) ∷ []
+digits-two n h k = digits-more n h ∙ ap (λ l. l ++ digit (n % 10) ∷ []) (digits-one (n / 10) (omega arith))
+
 pub count-one : (n : ℕ) → n < 10 → length (digitsOf n) ≡ 1
 count-one n h = ap length (digits-one n h)
 
@@ -63,3 +74,56 @@ digits-short (suc k) n h = by (ltb n 10) refl (digits-short k (n / 10))
 -- .. and so one that fits a width whose numbers are all below it
 pub digits-fit : (w : Width) (k : ℕ) {n : ℕ} → T (leb (2 ^ bits w) (10 ^ suc k)) → Fits w n → length (digitsOf n) ≤ suc k
 digits-fit w k {n} h f = digits-short k n (omega (arith, leb→le (2 ^ bits w) (10 ^ suc k) h, f .fits))
+
+-- ---- a short number, whose first digits are due by its size
+
+pub digits-below-100 : (n : ℕ) → n < 100 → digitsOf n ≡ lead (leb 10 n) (digit (n / 10)) (digit (n % 10) ∷ [])
+digits-below-100 n h = by (leb 10 n) refl
+  where
+    by : (t : Bool) → leb 10 n ≡ t → digitsOf n ≡ lead t (digit (n / 10)) (digit (n % 10) ∷ [])
+    by true e = digits-two n (leb-true 10 n e) h
+    by false e =
+        let k : n < 10 = leb-false 10 n e in
+        let z : n % 10 ≡ n = omega arith in
+        rw z (digits-one n k)
+
+pub count-below-100 : (n : ℕ) → n < 100 → length (digitsOf n) ≡ boolByte (leb 10 n) + 1
+count-below-100 n h = ap length (digits-below-100 n h) ∙ length-lead (leb 10 n) (digit (n / 10)) (digit (n % 10) ∷ [])
+
+-- its digits in two pairs, the second whole
+pub digits-below-10000 : (n : ℕ) → 10 ≤ n → n < 10000
+    → digitsOf n ≡ lead (leb 1000 n) (digit (n / 100 / 10)) (lead (leb 100 n) (digit (n / 100 % 10)) (digit (n % 100 / 10) ∷ digit (n % 100 % 10) ∷ []))
+digits-below-10000 n l h = by (leb 1000 n) (leb 100 n) refl refl
+  where
+    low : List ℕ
+    low = digit (n % 100 / 10) ∷ digit (n % 100 % 10) ∷ []
+
+    -- what stands before the last two digits
+    hundreds : 100 ≤ n → digitsOf n ≡ digitsOf (n / 100) ++ low
+    hundreds g =
+        let k : 10 ≤ n / 10 = omega arith in
+        let e : n / 10 / 10 ≡ n / 100 = omega arith in
+        let a : n % 100 / 10 ≡ n / 10 % 10 = omega arith in
+        let b : n % 100 % 10 ≡ n % 10 = omega arith in
+        rw (digits-more n l, digits-more (n / 10) k, e, a, b) (append-assoc (digitsOf (n / 100)) (digit (n / 10 % 10) ∷ []) (digit (n % 10) ∷ []))
+
+    by : (t u : Bool) → leb 1000 n ≡ t → leb 100 n ≡ u → digitsOf n ≡ lead t (digit (n / 100 / 10)) (lead u (digit (n / 100 % 10)) low)
+    by true true e f =
+        hundreds (leb-true 100 n f) ∙ ap (λ d. d ++ low) (digits-two (n / 100) (omega (arith, leb-true 1000 n e)) (omega arith))
+    by false true e f =
+        let z : n / 100 % 10 ≡ n / 100 = omega (arith, leb-false 1000 n e) in
+        rw z (hundreds (leb-true 100 n f) ∙ ap (λ d. d ++ low) (digits-one (n / 100) (omega (arith, leb-false 1000 n e))))
+    by false false e f =
+        let k : n < 100 = leb-false 100 n f in
+        let z : n % 100 ≡ n = omega arith in
+        rw z (digits-two n l k)
+    by true false e f = absurd (no (leb-true 1000 n e) (leb-false 100 n f))
+      where
+        no : 1000 ≤ n → n < 100 → ⊥
+        no p q = omega arith
+
+pub count-below-10000 : (n : ℕ) → 10 ≤ n → n < 10000 → length (digitsOf n) ≡ boolByte (leb 1000 n) + (boolByte (leb 100 n) + 2)
+count-below-10000 n l h =
+    ap length (digits-below-10000 n l h)
+    ∙ length-lead (leb 1000 n) _ _
+    ∙ ap (λ k. boolByte (leb 1000 n) + k) (length-lead (leb 100 n) _ _)

@@ -1,7 +1,7 @@
 -- A code's sign and magnitude.
-use Prim.Native.Nat.{ℕ, zero, suc, _<_, _≤_}
+use Prim.Native.Nat.{ℕ, zero, suc, _+_, _<_, _≤_}
 use mathlib.Core.Path.{_≡_, refl, ap, _∙_}
-use mathlib.Core.Bool.{true, false}
+use mathlib.Core.Bool.{Bool, true, false}
 use mathlib.Core.List.{_∷_}
 use native.Mathlib.Omega.{arith}
 use lib.Dec.{T}
@@ -9,10 +9,10 @@ use lib.ListN.{length}
 use lib.IntN.{ℤ, pos, negsuc, negℤ, natAbs, _-ℤ_, +ℤ-idl}
 use lib.Signed.{ltZ, nonNeg}
 use mir.Syntax.{w32, w64}
-use mir.Val.{SFits, Fits, toZ, ofZ}
+use mir.Val.{SFits, Fits, toZ, ofZ, boolByte}
 use mir.Facts.{toZ-ofZ, sfits-widen}
 use borrow.Author.Tests.{ltb-true}
-use Rattle.lines.proofs.Digits.{digits-short}
+use Rattle.lines.proofs.Digits.{lead, length-lead, digits-short}
 use Rattle.lines.specs.Text.{minus, digitsOf, signedOf}
 
 no-lt : (n : ℕ) {X : Type 0} → n < 0 → X
@@ -49,15 +49,25 @@ above (pos n) h e = (tt, record { fits = omega (arith, h .sfits) })
 above (negsuc n) h e = let o : _≡_ {A = ℕ} 0 1 = cc in no-lt 0 (omega arith)
 
 -- the text from the magnitude
-pub signed-below : (z : ℤ) → ltZ z (pos 0) ≡ true → signedOf z ≡ minus ∷ digitsOf (natAbs z)
+signed-below : (z : ℤ) → ltZ z (pos 0) ≡ true → signedOf z ≡ minus ∷ digitsOf (natAbs z)
 unfolding signedOf
 signed-below (pos n) e = no-lt n (ltb-true n 0 e)
 signed-below (negsuc n) e = refl
 
-pub signed-above : (z : ℤ) → ltZ z (pos 0) ≡ false → signedOf z ≡ digitsOf (natAbs z)
+signed-above : (z : ℤ) → ltZ z (pos 0) ≡ false → signedOf z ≡ digitsOf (natAbs z)
 unfolding signedOf
 signed-above (pos n) e = refl
 signed-above (negsuc n) e = let o : _≡_ {A = ℕ} 0 1 = cc in no-lt 0 (omega arith)
+
+pub signed-is : (z : ℤ) → signedOf z ≡ lead (ltZ z (pos 0)) minus (digitsOf (natAbs z))
+signed-is z = by (ltZ z (pos 0)) refl
+  where
+    by : (t : Bool) → ltZ z (pos 0) ≡ t → signedOf z ≡ lead t minus (digitsOf (natAbs z))
+    by true e = signed-below z e
+    by false e = signed-above z e
+
+pub signed-count : (z : ℤ) → length (signedOf z) ≡ boolByte (ltZ z (pos 0)) + length (digitsOf (natAbs z))
+signed-count z = ap length (signed-is z) ∙ length-lead (ltZ z (pos 0)) minus (digitsOf (natAbs z))
 
 -- a code has at most ten digits and a sign
 pub signed-short : (z : ℤ) → SFits w32 z → length (signedOf z) ≤ 11

@@ -3,14 +3,16 @@ use Prim.Native.Nat.{ℕ, suc, _+_, _-_, _<_, _≤_}
 use mathlib.Core.Path.{_≡_, refl, sym, ap, _∙_}
 use mathlib.Core.Bool.{Bool, true, false, not}
 use mathlib.Core.List.{List, [], _∷_, _++_, append-assoc}
-use native.Mathlib.Nat.{add-assoc}
+use native.Mathlib.Nat.{add-assoc, add-zero}
 use native.Mathlib.Omega.{arith}
 use native.Mathlib.Numerals.{add-one}
 use lib.Dec.{leb}
-use lib.ListN.{length, take, drop, set, length-append, length-drop}
-use lib.Seq.{paste, paste-zero, length-paste, take-paste, drop-paste, drop-drop, take-length, length-take-le, take-set-le, set-split, drop-at, append-snoc}
+use lib.ListN.{length, take, drop, set, length-append, length-drop, length-set}
+use lib.Seq.{paste, paste-zero, length-paste, take-paste, drop-paste, drop-drop, take-length, length-take-le, take-set-le, drop-set-lt, set-split, drop-at, append-snoc}
+use mir.Val.{boolByte}
 use borrow.Author.Tests.{not-true, not-false, leb-true, leb-false, le-leb, lt-leb}
 use Rattle.lines.specs.Buffer.{written, Put, PutIn, lineBytes, hasRoom, putLine}
+use Rattle.lines.proofs.Digits.{lead}
 
 -- the buffer after a store
 pub written-one : (out : List ℕ) (at b : ℕ) → at < length out → set out at b ≡ written out at (b ∷ [])
@@ -49,6 +51,20 @@ then {out} {after} {last} {at} {next} {end} {s} {t} p q =
       room = let e : length after ≡ length out = ap length (p .buffer) ∙ length-written out at s (p .room) in rw length-append (omega (arith, p .room, p .place, q .room));
       place = rw length-append (omega (arith, p .place, q .place));
       buffer = q .buffer ∙ rw (p .buffer, p .place) (written-append out at s t (p .room));
+    }
+
+-- a byte that may not be due: where it is not, the text is written over it
+pub due : (t : Bool) (b : ℕ) {out after : List ℕ} {at next : ℕ} {s : List ℕ} → Put (set out at b) (at + boolByte t) s after next → 1 ≤ length s → at < length out
+    → Put out at (lead t b s) after next
+due true b {out} {at = at} p h l = then (put-byte out at b l) p
+due false b {out} {at = at} {s = s} p h l =
+    let q = rw add-zero at p in
+    let e : at ≤ at = omega arith in
+    let k : at < at + length s = omega arith in
+    record {
+      room = rw (length-set out at b) at (q .room);
+      place = q .place;
+      buffer = q .buffer ∙ rw (take-set-le at out at b e, drop-set-lt (at + length s) out at b k);
     }
 
 pub put-length : {out after : List ℕ} {at next : ℕ} {s : List ℕ} → Put out at s after next → length after ≡ length out

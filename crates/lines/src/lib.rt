@@ -2,93 +2,33 @@
 //
 // A line goes to a position of the buffer, and the position behind it is the answer. Where less than LINE_BYTES are left, a
 // line function changes nothing and answers the position it was given; proofs/Lengths.antt has that no line is longer.
+mod numbers;
+
 ghost use mathlib.Core.Path.{_≡_};
 ghost use mathlib.Core.List.{[], _∷_};
 ghost use Prim.Native.Nat.{_+_, _*_, _≤_};
 ghost use lib.Dec.{leb};
 ghost use lib.ListN.{length, take};
-ghost use lib.IntN.{natAbs};
+ghost use lib.IntN.{pos};
 ghost use Rattle.model.specs.Limits.{processes};
-ghost use Rattle.lines.specs.Text.{newline, digitsOf, signedOf, wordLine, headLine, badLine, wakingText, wakingsText, openingText, eventText, queryText};
+ghost use Rattle.wakings.specs.Wakings.{wakingsIn};
+ghost use Rattle.lines.specs.Text.{newline, wordLine, headLine, badLine, wakingText, wakingsText, openingText, eventText, queryText};
 ghost use Rattle.lines.specs.Buffer.{Put, PutIn, putLine, lineBytes, wakingBytes, openingBytes};
+use crate::numbers::marked;
+use crate::numbers::number;
+use crate::numbers::signed;
 use model::Queried;
-use model::Waking;
-use model::Wakings;
+use model::Told;
+use model::WAKING_BYTES;
 
 // The room that a line function asks for.
 const LINE_BYTES: usize = 250;
 
 const BLANK: u8 = 32;
 
-const MINUS: u8 = 45;
-
 const EQUALS: u8 = 61;
 
 const NEWLINE: u8 = 10;
-
-const ZERO: u8 = 48;
-
-// How many digits a number has.
-fn places(n: usize) -> usize
-    ensures { λ r. ⌜ r ≡ length (digitsOf n) ⌝ }
-{
-    let mut k = 1;
-    let mut rest = n;
-    while 10 <= rest {
-        rest /= 10;
-        k += 1;
-    }
-    k
-}
-
-// Writes a number, from its last digit to its first.
-fn number(out: &mut [u8], at: usize, n: usize) -> usize
-    requires { ⌜ at + length (digitsOf n) ≤ length (now out) ⌝ }
-    ensures { λ r. ⌜ Put (now (out .entry)) at (digitsOf n) (now (out .exit)) r ⌝ }
-{
-    let end = at + places(n);
-    let mut i = end - 1;
-    let mut rest = n;
-    while 10 <= rest {
-        out[i] = ZERO + ((rest % 10) as u8);
-        rest /= 10;
-        i -= 1;
-    }
-    out[i] = ZERO + (rest as u8);
-    end
-}
-
-// Writes a byte and a number.
-fn marked(out: &mut [u8], at: usize, mark: u8, n: usize) -> usize
-    requires { ⌜ at + length (mark ∷ digitsOf n) ≤ length (now out) ⌝ }
-    ensures { λ r. ⌜ Put (now (out .entry)) at (mark ∷ digitsOf n) (now (out .exit)) r ⌝ }
-{
-    out[at] = mark;
-    number(out, at + 1, n)
-}
-
-// A code without its sign.
-fn magnitude(c: i32) -> usize
-    ensures { λ r. ⌜ r ≡ natAbs c ⌝ }
-{
-    if c < 0 {
-        (0 - (c as i64)) as usize
-    } else {
-        c as usize
-    }
-}
-
-// Writes a byte and a code, with a minus sign where it is below zero.
-fn signed(out: &mut [u8], at: usize, mark: u8, c: i32) -> usize
-    requires { ⌜ at + length (mark ∷ signedOf c) ≤ length (now out) ⌝ }
-    ensures { λ r. ⌜ Put (now (out .entry)) at (mark ∷ signedOf c) (now (out .exit)) r ⌝ }
-{
-    if c < 0 {
-        out[at] = mark;
-        return marked(out, at + 1, MINUS, magnitude(c));
-    }
-    marked(out, at, mark, magnitude(c))
-}
 
 // Writes a text.
 fn put(out: &mut [u8], at: usize, text: &[u8]) -> usize
@@ -110,33 +50,6 @@ fn ended(out: &mut [u8], at: usize) -> usize
 {
     out[at] = NEWLINE;
     at + 1
-}
-
-// Writes a waking as process=code, behind a blank.
-fn waking(out: &mut [u8], at: usize, process: u32, code: i32) -> usize
-    requires { ⌜ at + wakingBytes ≤ length (now out) ⌝ }
-    ensures { λ r. ⌜ PutIn wakingBytes (now (out .entry)) at (wakingText process code) (now (out .exit)) r ⌝ }
-{
-    let next = marked(out, at, BLANK, process as usize);
-    signed(out, next, EQUALS, code)
-}
-
-// Writes the wakings.
-fn woken(out: &mut [u8], at: usize, count: usize, list: [Waking; model::PROCESSES]) -> usize
-    requires { ⌜ at + processes * wakingBytes ≤ length (now out) ⌝ }
-    ensures { λ r. ⌜ PutIn (processes * wakingBytes) (now (out .entry)) at (wakingsText (take count list)) (now (out .exit)) r ⌝ }
-{
-    let mut next = at;
-    let mut k = 0;
-    while k < model::PROCESSES {
-        if count <= k {
-            return next;
-        }
-        let one = list[k];
-        next = waking(out, next, one.process, one.code);
-        k += 1;
-    }
-    next
 }
 
 // Is there room for any line, from a position of a buffer of so many bytes on?
@@ -198,44 +111,63 @@ fn opening(out: &mut [u8], at: usize, position: usize, code: i32, value: u32) ->
     marked(out, b, BLANK, value as usize)
 }
 
-// The numbers of an event's line, and its wakings.
-fn evented(
-    out: &mut [u8],
-    at: usize,
-    position: usize,
-    code: i32,
-    value: u32,
-    looks: usize,
-    w: Wakings,
-) -> usize
-    requires { ⌜ at + lineBytes ≤ length (now out) ⌝ }
-    ensures { λ r. ⌜ PutIn lineBytes (now (out .entry)) at (eventText position code value looks (take (w .count) (w .list))) (now (out .exit)) r ⌝ }
+// Writes a waking as process=code, behind a blank.
+fn woke(out: &mut [u8], at: usize, process: u8, code: u8) -> usize
+    requires { ⌜ at + wakingBytes ≤ length (now out) ⌝ }
+    ensures { λ r. ⌜ PutIn wakingBytes (now (out .entry)) at (wakingText process (pos code)) (now (out .exit)) r ⌝ }
 {
-    let a = opening(out, at, position, code, value);
-    let b = marked(out, a, BLANK, looks);
-    let count = w.count;
-    let list = w.list;
-    let c = woken(out, b, count, list);
+    let next = marked(out, at, BLANK, process as usize);
+    marked(out, next, EQUALS, code as usize)
+}
+
+// Writes the first `count` wakings of a list, and no more than there are.
+fn all_woken(out: &mut [u8], at: usize, count: usize, list: &[u8; WAKING_BYTES]) -> usize
+    requires { ⌜ at + processes * wakingBytes ≤ length (now out) ⌝ }
+    ensures { λ r. ⌜ PutIn (processes * wakingBytes) (now (out .entry)) at (wakingsText (take count (wakingsIn (now (list .entry))))) (now (out .exit)) r ⌝ }
+{
+    let most = if count < model::PROCESSES {
+        count
+    } else {
+        model::PROCESSES
+    };
+    let mut next = at;
+    for k in 0..most {
+        next = woke(
+            out,
+            next,
+            wakings::process_of(list, k),
+            wakings::code_of(list, k),
+        );
+    }
+    next
+}
+
+// The numbers that an event told, and its wakings.
+fn all_told(out: &mut [u8], at: usize, position: usize, t: Told, list: &[u8; WAKING_BYTES]) -> usize
+    requires { ⌜ at + lineBytes ≤ length (now out) ⌝ }
+    ensures { λ r. ⌜ PutIn lineBytes (now (out .entry)) at (eventText position (t .code) (t .value) (t .looks) (take (t .woken) (wakingsIn (now (list .entry))))) (now (out .exit)) r ⌝ }
+{
+    let a = opening(out, at, position, t.code, t.value);
+    let b = marked(out, a, BLANK, t.looks);
+    let c = all_woken(out, b, t.woken, list);
     ended(out, c)
 }
 
-// The line of any event but a query. Of the wakings the first `count` are written, and no more than there are.
-pub fn event_line(
+// The line of any event but a query: what it told, and the wakings in the list that it was lent.
+pub fn told_line(
     out: &mut [u8],
     at: usize,
     position: usize,
-    code: i32,
-    value: u32,
-    looks: usize,
-    w: Wakings,
+    told: Told,
+    wakings: &[u8; WAKING_BYTES],
 ) -> usize
-    ensures { λ r. ⌜ (r, now (out .exit)) ≡ putLine (now (out .entry)) at (eventText position code value looks (take (w .count) (w .list))) ⌝ }
+    ensures { λ r. ⌜ (r, now (out .exit)) ≡ putLine (now (out .entry)) at (eventText position (told .code) (told .value) (told .looks) (take (told .woken) (wakingsIn (now (wakings .entry))))) ⌝ }
     ensures { λ r. ⌜ r ≤ at + lineBytes ⌝ }
 {
     if !has_room(out.len(), at) {
         return at;
     }
-    evented(out, at, position, code, value, looks, w)
+    all_told(out, at, position, told, wakings)
 }
 
 // The numbers of a query's line.

@@ -10,7 +10,6 @@ pub mod QueueLaws
 pub mod TableLaws
 pub mod CheckLaws
 pub mod Ones
-pub mod LayoutLaws
 -- a waking, in either engine:
 pub mod WakingLaws
 pub mod Rules
@@ -21,4 +20,3 @@ pub mod EventLaws
 pub mod WakingEvents
 pub mod Engines
 pub mod Situations
-pub mod Held

@@ -9,7 +9,7 @@ pub mod Waking
 pub mod Checks
 pub mod Counts
 pub mod Events
+pub mod Handed
 pub mod Runs
 pub mod Invariant
-pub mod Layout
 pub mod Situations

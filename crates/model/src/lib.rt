@@ -1,11 +1,8 @@
-// What the host holds, and what an event answers: the data of the service, and the fresh host.
+// What an event is, and what it answers: the data of the service, and its limits.
 //
 // The definitions that every promise cites stand in specs/, in the order of the rules they say; the laws about them,
-// and the claim that the quick waking rule equals the plain one, in proofs/. The caller holds a `Host` and hands it to
-// each event; what a `Host` means is the `State` of specs/State.antt, and specs/Layout.antt ties the two.
-ghost use mathlib.Core.Path.{_≡_};
-ghost use Rattle.model.specs.State.{freshState};
-ghost use Rattle.model.specs.Layout.{hostOf};
+// and the claim that the quick waking rule equals the plain one, in proofs/. What a host holds is the `State` of
+// specs/State.antt; the crate `host` says where each number of it lies.
 
 // The limits. Each has its twin in specs/Limits.antt.
 pub const SETS: usize = 4;
@@ -41,32 +38,6 @@ pub struct Set {
     pub count: u8,
     pub read: u8,
     pub alter: u8,
-}
-
-// The place of a sleeper in the queue: its process, the slot it sleeps at, the length of its array in bytes, and the
-// mask of the semaphores that the array names.
-pub struct Place {
-    pub process: u8,
-    pub slot: u8,
-    pub size: u8,
-    pub names: u8,
-}
-
-// The sleepers, oldest first: the first `asleep` of the places. The others are zero.
-pub struct Line {
-    pub asleep: usize,
-    pub places: [Place; PROCESSES],
-}
-
-// All that the host holds. Values and last processes are addressed by slot and number, adjustments by process, slot and
-// number; the array of a sleeping process lies at its process's `ARRAY_BYTES` of `arrays`.
-pub struct Host {
-    pub sets: [Set; SETS],
-    pub values: [u16; ALL_SEMAPHORES],
-    pub lasts: [u8; ALL_SEMAPHORES],
-    pub line: Line,
-    pub adjustments: [i16; ALL_ADJUSTMENTS],
-    pub arrays: [u8; ALL_BYTES],
 }
 
 // One operation of an array, decoded.
@@ -121,21 +92,6 @@ pub enum Engine {
 pub struct Waking {
     pub process: u32,
     pub code: i32,
-}
-
-// The first `count` of the list; the others are zero.
-pub struct Wakings {
-    pub count: usize,
-    pub list: [Waking; PROCESSES],
-}
-
-// What an event returns: the host after it, its answer, its looks and its wakings.
-pub struct Step {
-    pub host: Host,
-    pub code: i32,
-    pub value: u32,
-    pub looks: usize,
-    pub wakings: Wakings,
 }
 
 // An event that is handed in. The bytes of an operate's operations stand beside it.
@@ -193,39 +149,4 @@ pub struct Queried {
 pub enum Reply {
     Told(Told),
     Seen(Queried),
-}
-
-// A host at its start: four free slots with every number 0, no adjustments, and nobody asleep.
-pub fn fresh() -> Host
-    ensures { λ r. ⌜ r ≡ hostOf freshState ⌝ }
-{
-    let set = Set {
-        generation: 0,
-        count: 0,
-        read: 0,
-        alter: 0,
-    };
-    let place = Place {
-        process: 0,
-        slot: 0,
-        size: 0,
-        names: 0,
-    };
-    let sets = [set; SETS];
-    let values = [0u16; ALL_SEMAPHORES];
-    let lasts = [0u8; ALL_SEMAPHORES];
-    let adjustments = [0i16; ALL_ADJUSTMENTS];
-    let places = [place; PROCESSES];
-    let arrays = [0u8; ALL_BYTES];
-    Host {
-        sets: sets,
-        values: values,
-        lasts: lasts,
-        adjustments: adjustments,
-        line: Line {
-            asleep: 0,
-            places: places,
-        },
-        arrays: arrays,
-    }
 }

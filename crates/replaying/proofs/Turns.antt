@@ -1,25 +1,23 @@
--- What holds of a progress that came so, and how the next event goes on from it.
+-- What holds of a stage that came so, and how the next event goes on from it.
 use Prim.Native.Nat.{ℕ, zero, suc, _+_, _-_, _<_, _≤_}
 use mathlib.Core.Path.{_≡_, refl, sym, ap, subst, _∙_}
 use mathlib.Core.List.{List, [], _∷_, _++_}
 use native.Mathlib.Omega.{arith}
 use lib.ListN.{length}
 use Rattle.model.specs.declared.Engine.{Engine}
-use Rattle.model.specs.declared.Host.{Host}
 use Rattle.model.specs.State.{freshState}
-use Rattle.model.specs.Runs.{start, came, run}
-use Rattle.model.specs.Layout.{Held, hostOf, stateOf}
-use Rattle.model.proofs.Held.{state-back, held-of}
+use Rattle.model.specs.Runs.{came, run}
+use Rattle.host.specs.Holding.{Host, hostOf, stateIn, Held}
+use Rattle.host.proofs.HeldLaws.{state-back, held-fresh, held-next}
 use Rattle.runfile.specs.Table.{fileMax, tableEnd, countOf}
 use Rattle.runfile.specs.Body.{eventAt, nextAt, eventsFrom}
 use Rattle.runfile.specs.File.{codeOfFile}
 use Rattle.runfile.proofs.Walk.{Body, Bodies, is-good, good-events, good-bodies, bad-code, events-turn, body-turn}
 use Rattle.lines.specs.Text.{textOf}
-use Rattle.replaying.specs.declared.Progress.{Progress}
-use Rattle.replaying.specs.Replay.{eventsIn, startOf, nextLine, onward, Came, started, went}
+use Rattle.replaying.specs.Replay.{Stage, eventsIn, startOf, nextLine, onward, Came, started, went}
 
-abbrev pub progress : Host → ℕ → ℕ → ℕ → Progress
-progress host position left at = record { host = host; position = position; left = left; at = at }
+abbrev pub stage : Host → ℕ → ℕ → ℕ → Stage
+stage host position left at = record { host = host; position = position; left = left; at = at }
 
 pub none : {X : Type 0} → 0 < 0 → X
 none h = absurd (no h)
@@ -27,12 +25,12 @@ none h = absurd (no h)
     no : 0 < 0 → ⊥
     no z = omega arith
 
--- ---- what a progress that came so has: a host that holds a state, the bodies that are left, and positions that fit
+-- ---- what a stage that came so has: a host that holds a state, the bodies that are left, and positions that fit
 
-pub record Ready (file : List ℕ) (p : Progress) : Type 0 where
-  pub held : Held (p .host)
-  pub bodies : 0 < p .left → Bodies file (p .at) (p .left)
-  pub few : p .position + p .left ≤ fileMax
+pub record Ready (file : List ℕ) (s : Stage) : Type 0 where
+  pub held : Held (s .host)
+  pub bodies : 0 < s .left → Bodies file (s .at) (s .left)
+  pub few : s .position + s .left ≤ fileMax
 
 pub length-events : (file : List ℕ) (at n : ℕ) → length (eventsFrom file at n) ≡ n
 unfolding eventsFrom
@@ -52,53 +50,53 @@ module _ (file : List ℕ) (at n : ℕ) (h : 0 < n) where
 
 -- the start of a refused file, and of a good one
 module _ (file : List ℕ) where
-  pub start-bad : (codeOfFile file ≡ 0 → ⊥) → startOf file ≡ progress (hostOf freshState) 0 0 (tableEnd 0)
+  pub start-bad : (codeOfFile file ≡ 0 → ⊥) → startOf file ≡ stage (hostOf freshState) 0 0 (tableEnd 0)
   unfolding startOf eventsIn
   start-bad h = rw (bad-code file h)
 
-  pub start-good : codeOfFile file ≡ 0 → startOf file ≡ progress (hostOf freshState) 0 (countOf file) (tableEnd (countOf file))
+  pub start-good : codeOfFile file ≡ 0 → startOf file ≡ stage (hostOf freshState) 0 (countOf file) (tableEnd (countOf file))
   unfolding startOf eventsIn
   start-good h = rw (good-events file h, length-events file (tableEnd (countOf file)) (countOf file))
 
   start-ready : (code : ℕ) → codeOfFile file ≡ code → Ready file (startOf file)
   start-ready zero h =
-      rw (start-good h) (record { held = held-of start; bodies = λ l. good-bodies file h; few = omega (arith, is-good file h .short, is-good file h .table) })
+      rw (start-good h) (record { held = held-fresh; bodies = λ l. good-bodies file h; few = omega (arith, is-good file h .short, is-good file h .table) })
   start-ready (suc n) h =
-      rw (start-bad (λ z. no n (sym h ∙ z))) (record { held = held-of start; bodies = λ l. none l; few = omega arith })
+      rw (start-bad (λ z. no n (sym h ∙ z))) (record { held = held-fresh; bodies = λ l. none l; few = omega arith })
     where
       no : (m : ℕ) → suc m ≡ 0 → ⊥
       no m z = omega arith
 
-pub ready : {file : List ℕ} {p : Progress} → Came file p → Ready file p
+pub ready : {file : List ℕ} {s : Stage} → Came file s → Ready file s
 unfolding onward
 ready {file} started = start-ready file (codeOfFile file) refl
-ready {file} (went {p} k h engine) =
-    let r : Ready file p = ready k in
+ready {file} (went {s} k h engine) =
+    let r : Ready file s = ready k in
     record {
-      held = held-of (came (r .held .reached) engine (eventAt file (p .at)));
-      bodies = λ l. first-body file (p .at) (p .left) h (r .bodies h) .1;
+      held = held-next (s .host) (r .held) engine (eventAt file (s .at));
+      bodies = λ l. first-body file (s .at) (s .left) h (r .bodies h) .1;
       few = omega (arith, r .few);
     }
 
 -- ---- the next event
 
 -- the text that is still to be written
-unfoldable pub rest : Engine → List ℕ → Progress → List ℕ
-rest engine file p =
-    let es = eventsFrom file (p .at) (p .left) in
-    textOf (p .position) es (run engine (stateOf (p .host)) es .results)
+unfoldable pub rest : Engine → List ℕ → Stage → List ℕ
+rest engine file s =
+    let es = eventsFrom file (s .at) (s .left) in
+    textOf (s .position) es (run engine (stateIn (s .host)) es .results)
 
-module _ {file : List ℕ} {p : Progress} (k : Came file p) (h : 0 < p .left) where
-  pub next-body : Body file (p .at)
-  next-body = first-body file (p .at) (p .left) h (ready k .bodies h) .0
+module _ {file : List ℕ} {s : Stage} (k : Came file s) (h : 0 < s .left) where
+  pub next-body : Body file (s .at)
+  next-body = first-body file (s .at) (s .left) h (ready k .bodies h) .0
 
   -- its line, and then what is left behind it
-  pub rest-turn : (engine : Engine) → rest engine file p ≡ nextLine engine file p ++ rest engine file (onward engine file p)
+  pub rest-turn : (engine : Engine) → rest engine file s ≡ nextLine engine file s ++ rest engine file (onward engine file s)
   unfolding rest onward nextLine run textOf
   rest-turn engine =
-      let e = state-back (came (ready k .held .reached) engine (eventAt file (p .at))) in
-      rw (first-event file (p .at) (p .left) h, e)
+      let e = state-back (came (ready k .held .reached) engine (eventAt file (s .at))) in
+      rw (first-event file (s .at) (s .left) h, e)
 
-pub rest-over : (engine : Engine) (file : List ℕ) (p : Progress) → p .left ≡ 0 → rest engine file p ≡ []
+pub rest-over : (engine : Engine) (file : List ℕ) (s : Stage) → s .left ≡ 0 → rest engine file s ≡ []
 unfolding rest eventsFrom textOf
-rest-over engine file p h = rw h
+rest-over engine file s h = rw h

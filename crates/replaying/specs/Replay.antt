@@ -5,18 +5,20 @@ use mathlib.Core.List.{List, [], _++_}
 use lib.Dec.{ltb}
 use lib.ListN.{length, take}
 use Rattle.model.specs.declared.Engine.{Engine}
+use Rattle.model.specs.declared.Waking.{Waking}
+use Rattle.model.specs.declared.Reply.{Reply}
+use Rattle.model.specs.declared.Reply.the-variants.{Told, Seen}
 use Rattle.model.specs.State.{freshState}
 use Rattle.model.specs.Waking.{waker}
 use Rattle.model.specs.Events.{Event, Result, event}
 use Rattle.model.specs.Runs.{run}
-use Rattle.model.specs.Layout.{hostOf, stateOf}
+use Rattle.host.specs.Holding.{Host, hostOf, stateIn}
 use Rattle.runfile.specs.Table.{tableEnd}
 use Rattle.runfile.specs.Body.{eventAt, nextAt}
 use Rattle.runfile.specs.File.{File, bad, good, fileOf}
-use Rattle.lines.specs.Text.{headLine, badLine, lineOf, textOf}
+use Rattle.lines.specs.Text.{headLine, badLine, eventText, queryText, lineOf, textOf}
 use Rattle.lines.specs.Buffer.{written, hasRoom, putLine}
 use Rattle.replaying.specs.declared.Progress.{Progress}
-use Rattle.replaying.specs.declared.Wrote.{Wrote}
 
 -- ---- the whole text
 
@@ -39,70 +41,96 @@ replayed engine file = textOfFile engine (fileOf file)
 
 -- ---- how far a replay has come
 
+-- the host, the position of the next event, how many are left, and where the next body begins
+pub record Stage : Type 0 where
+  pub host : Host
+  pub position : ℕ
+  pub left : ℕ
+  pub at : ℕ
+
+-- .. as a host and what was answered have it
+abbrev pub stageIn : Host → Progress → Stage
+stageIn x p = record { host = x; position = p .position; left = p .left; at = p .at }
+
 -- behind the first line: the host is fresh, all events are left, and their bodies lie behind the table
-unfoldable pub startOf : List ℕ → Progress
+unfoldable pub startOf : List ℕ → Stage
 startOf file =
     let n = length (eventsIn (fileOf file)) in
     record { host = hostOf freshState; position = 0; left = n; at = tableEnd n }
 
 -- what the engine gives for the next event, and its line
-abbrev pub nextResult : Engine → List ℕ → Progress → Result
-nextResult engine file p = event (waker engine) (stateOf (p .host)) (eventAt file (p .at))
+abbrev pub nextResult : Engine → List ℕ → Stage → Result
+nextResult engine file s = event (waker engine) (stateIn (s .host)) (eventAt file (s .at))
 
-unfoldable pub nextLine : Engine → List ℕ → Progress → List ℕ
-nextLine engine file p = lineOf (p .position) (eventAt file (p .at)) (nextResult engine file p)
+unfoldable pub nextLine : Engine → List ℕ → Stage → List ℕ
+nextLine engine file s = lineOf (s .position) (eventAt file (s .at)) (nextResult engine file s)
 
 -- behind the next event
-unfoldable pub onward : Engine → List ℕ → Progress → Progress
-onward engine file p =
-    record { host = hostOf (nextResult engine file p .state); position = p .position + 1; left = p .left - 1; at = nextAt file (p .at) }
+unfoldable pub onward : Engine → List ℕ → Stage → Stage
+onward engine file s =
+    record { host = hostOf (nextResult engine file s .state); position = s .position + 1; left = s .left - 1; at = nextAt file (s .at) }
 
 -- behind the next n events
-unfoldable pub ahead : Engine → List ℕ → Progress → ℕ → Progress
-ahead engine file p zero = p
-ahead engine file p (suc n) = onward engine file (ahead engine file p n)
+unfoldable pub ahead : Engine → List ℕ → Stage → ℕ → Stage
+ahead engine file s zero = s
+ahead engine file s (suc n) = onward engine file (ahead engine file s n)
 
 -- behind all events of a file
-abbrev pub finished : Engine → List ℕ → Progress
+abbrev pub finished : Engine → List ℕ → Stage
 finished engine file = ahead engine file (startOf file) (startOf file .left)
 
--- The one premise of a piece: the progress is that of a start, or came back from a piece, of either engine.
-pub data Came (file : List ℕ) : Progress → Type 0 where
+-- The one premise of a piece: host and progress are those of a start, or came back from a piece, of either engine.
+pub data Came (file : List ℕ) : Stage → Type 0 where
   started : Came file (startOf file)
-  went : {p : Progress} → Came file p → 0 < p .left → (engine : Engine) → Came file (onward engine file p)
+  went : {s : Stage} → Came file s → 0 < s .left → (engine : Engine) → Came file (onward engine file s)
 
 -- ---- piece by piece, each into a lent buffer
 
-abbrev pub wrote : Progress → ℕ → Wrote
-wrote p n = record { progress = p; written = n }
+-- what a start or a piece leaves: how far the replay has come, and the buffer, with so many bytes written
+pub record Wrote : Type 0 where
+  pub stage : Stage
+  pub written : ℕ
+  pub out : List ℕ
 
--- what a start answers, and the buffer after it
-unfoldable pub begun : List ℕ → List ℕ → Wrote × List ℕ
+abbrev pub wrote : Stage → ℕ → List ℕ → Wrote
+wrote s n out = record { stage = s; written = n; out = out }
+
+-- .. as a host, what was answered, and a buffer have it
+abbrev pub wroteIn : Host → Progress → List ℕ → Wrote
+wroteIn x p out = wrote (stageIn x p) (p .written) out
+
+-- behind a start
+unfoldable pub begun : List ℕ → List ℕ → Wrote
 begun file out =
     let put = putLine out 0 (firstLine (fileOf file)) in
-    (wrote (startOf file) (put .0), put .1)
+    wrote (startOf file) (put .0) (put .1)
+
+-- the line of an event's reply, with the list of wakings that the event was lent
+abbrev pub replyText : ℕ → List Waking → Reply → List ℕ
+replyText position list (Told t) = eventText position (t .code) (t .value) (t .looks) (take (t .woken) list)
+replyText position list (Seen q) = queryText position (q .code) (q .value) (q .last) (q .increase) (q .zero)
 
 -- events run, and their lines stand one behind the other from a position on, while any is left and any line has room. The
 -- first number is that of the events left.
-unfoldable pub pieceFrom : ℕ → Engine → List ℕ → Progress → ℕ → List ℕ → Wrote × List ℕ
-pieceFrom zero engine file p at out = (wrote p at, out)
-pieceFrom (suc n) engine file p at out =
-    let line = nextLine engine file p in
-    cond (hasRoom out at) (pieceFrom n engine file (onward engine file p) (at + length line) (written out at line)) (wrote p at, out)
+unfoldable pub pieceFrom : ℕ → Engine → List ℕ → Stage → ℕ → List ℕ → Wrote
+pieceFrom zero engine file s at out = wrote s at out
+pieceFrom (suc n) engine file s at out =
+    let line = nextLine engine file s in
+    cond (hasRoom out at) (pieceFrom n engine file (onward engine file s) (at + length line) (written out at line)) (wrote s at out)
 
--- what a piece answers, and the buffer after it
-abbrev pub pieceOf : Engine → List ℕ → Progress → List ℕ → Wrote × List ℕ
-pieceOf engine file p out = pieceFrom (p .left) engine file p 0 out
+-- behind a piece
+abbrev pub pieceOf : Engine → List ℕ → Stage → List ℕ → Wrote
+pieceOf engine file s out = pieceFrom (s .left) engine file s 0 out
 
 -- the texts of pieces one after another, while any event is left; the first number is at least that of the pieces
-unfoldable pub textsFrom : ℕ → Engine → List ℕ → Progress → List ℕ → List ℕ
-textsFrom zero engine file p out = []
-textsFrom (suc n) engine file p out =
-    let w = pieceOf engine file p out in
-    cond (ltb 0 (p .left)) (take (w .0 .written) (w .1) ++ textsFrom n engine file (w .0 .progress) (w .1)) []
+unfoldable pub textsFrom : ℕ → Engine → List ℕ → Stage → List ℕ → List ℕ
+textsFrom zero engine file s out = []
+textsFrom (suc n) engine file s out =
+    let w = pieceOf engine file s out in
+    cond (ltb 0 (s .left)) (take (w .written) (w .out) ++ textsFrom n engine file (w .stage) (w .out)) []
 
 -- the text of a start and of all pieces behind it
 unfoldable pub together : Engine → List ℕ → List ℕ → List ℕ
 together engine file out =
     let w = begun file out in
-    take (w .0 .written) (w .1) ++ textsFrom (w .0 .progress .left) engine file (w .0 .progress) (w .1)
+    take (w .written) (w .out) ++ textsFrom (w .stage .left) engine file (w .stage) (w .out)

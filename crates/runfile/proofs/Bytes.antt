@@ -1,20 +1,20 @@
--- Bytes past the end of a file, fields at sums of positions, and thirty-two bits less 2 ^ 32.
-use Prim.Native.Nat.{ℕ, suc, _+_, _-_, _<_, _≤_}
+-- Bytes past the end of a file, parts of it that go to its end, and thirty-two bits less 2 ^ 32.
+use Prim.Native.Nat.{ℕ, suc, _-_, _<_, _≤_}
 use mathlib.Core.Path.{_≡_, ap}
 use mathlib.Core.List.{List}
-use native.Mathlib.Nat.{add-assoc}
 use native.Mathlib.Omega.{arith}
-use lib.ListN.{length, List·getD-eq-default}
+use lib.ListN.{length, take, drop, length-drop, List·getD-eq-default}
+use lib.Seq.{take-all}
 use lib.IntN.{pos, negsuc, _-ℤ_}
 use borrow.Author.Tests.{lt-ltb}
-use Rattle.model.specs.Operation.{two}
-use Rattle.runfile.specs.Fields.{byteAt, halfAt}
+use Rattle.runfile.specs.Fields.{byteAt}
 
 pub past : (file : List ℕ) (at : ℕ) → length file ≤ at → byteAt file at ≡ 0
 past file at h = List·getD-eq-default file 0 h
 
-pub second-half : (file : List ℕ) (at : ℕ) → halfAt file (at + 2) ≡ two (byteAt file (at + 2)) (byteAt file (at + 3))
-second-half file at = ap (λ (k : ℕ). two (byteAt file (at + 2)) (byteAt file k)) (add-assoc at 2 1)
+-- a part to the end is all that is left
+pub to-end : (file : List ℕ) (at : ℕ) → take (length file - at) (drop at file) ≡ drop at file
+to-end file at = let l : length (drop at file) ≤ length file - at = simp length-drop (omega arith) in take-all _ _ l
 
 pub minus-full : (n : ℕ) → n < 4294967296 → pos n -ℤ pos 4294967296 ≡ negsuc (4294967295 - n)
 minus-full n h = rw (lt-ltb n 4294967296 h) (let d : 4294967296 - suc n ≡ 4294967295 - n = omega arith in ap negsuc d)

@@ -1,22 +1,26 @@
 -- Small files, computed: the whole example of document 01, and one file of each code.
+use Prim.Native.Nat.{ℕ}
 use mathlib.Core.Path.{_≡_, refl}
-use mathlib.Core.List.{[], _∷_}
+use mathlib.Core.List.{List, [], _∷_}
 use lib.IntN.{pos, negsuc}
 use Rattle.model.specs.Events.{create, operate, setValue}
 use Rattle.runfile.specs.Fields.{wordAt, signed32}
 use Rattle.runfile.specs.Table.{countOf, entriesFrom, chains}
-use Rattle.runfile.specs.Body.{sizeOf, sizeAt, operationsAt, eventAt, bodyCode}
+use Rattle.runfile.specs.Body.{sizeOf, sizeAt, operationsAt, eventAt, handedAt, bodyCode}
 use Rattle.runfile.specs.File.{fileOf, eventsOf, bad, good}
 
 -- "Whole example, 44 bytes"
-whole : fileOf
-    (3 ∷ 0
+abbrev example : List ℕ
+example =
+    3 ∷ 0
     ∷ 14 ∷ 0 ∷ 4 ∷ 0
     ∷ 18 ∷ 0 ∷ 13 ∷ 0
     ∷ 31 ∷ 0 ∷ 13 ∷ 0
     ∷ 1 ∷ 1 ∷ 255 ∷ 255
     ∷ 2 ∷ 1 ∷ 0 ∷ 0 ∷ 0 ∷ 0 ∷ 1 ∷ 0 ∷ 0 ∷ 255 ∷ 255 ∷ 0 ∷ 0
-    ∷ 2 ∷ 2 ∷ 0 ∷ 0 ∷ 0 ∷ 0 ∷ 1 ∷ 0 ∷ 0 ∷ 1 ∷ 0 ∷ 0 ∷ 0 ∷ [])
+    ∷ 2 ∷ 2 ∷ 0 ∷ 0 ∷ 0 ∷ 0 ∷ 1 ∷ 0 ∷ 0 ∷ 1 ∷ 0 ∷ 0 ∷ 0 ∷ []
+
+whole : fileOf example
     ≡ good
     (create 1 255 255
     ∷ operate 1 (pos 0) (0 ∷ 0 ∷ 255 ∷ 255 ∷ 0 ∷ 0 ∷ [])
@@ -24,6 +28,15 @@ whole : fileOf
     ∷ [])
 unfolding wordAt signed32 countOf entriesFrom chains sizeOf sizeAt operationsAt eventAt bodyCode fileOf eventsOf
 whole = refl
+
+-- beside the create nothing is handed on, beside the operate its operation
+beside-create : handedAt example 14 ≡ []
+unfolding handedAt
+beside-create = refl
+
+beside-operate : handedAt example 18 ≡ 0 ∷ 0 ∷ 255 ∷ 255 ∷ 0 ∷ 0 ∷ []
+unfolding handedAt operationsAt
+beside-operate = refl
 
 -- "Two zero bytes are a good file"
 none : fileOf (0 ∷ 0 ∷ []) ≡ good []

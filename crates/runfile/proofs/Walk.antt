@@ -1,19 +1,25 @@
 -- What a walk along the bodies of a good file goes by: its events are those decoded from the end of the table on, each body
--- where the last ended, and every body lies within the file.
+-- where the last ended, and every body lies within the file; and what is read of a body is its event and its size.
 use Prim.Native.Nat.{ℕ, zero, suc, _+_, _*_, _-_, _<_, _≤_}
 use mathlib.Core.Path.{_≡_, refl, sym, ap, _∙_}
 use mathlib.Core.Bool.{Bool, true, false, cond, _&&_}
 use mathlib.Core.List.{List, [], _∷_, map}
 use native.Mathlib.Omega.{arith}
 use lib.Dec.{eqb}
-use lib.ListN.{length, take, drop}
-use borrow.Author.Tests.{ltb-false, eqb-true, eqb-false, ne-eqb}
+use lib.ListN.{length, take, drop, length-drop}
+use lib.Seq.{length-take-le}
+use borrow.Author.Tests.{ltb-false, eqb-true, eqb-false}
+use Rattle.model.specs.declared.Event as declared
 use Rattle.model.specs.Limits.{operationBytes}
-use Rattle.model.specs.Events.{Event, create, operate, setValue, remove, signal, exit, query}
-use Rattle.runfile.specs.Fields.{byteAt, halfAt, signedAt}
+use Rattle.model.specs.Events.{Event}
+use Rattle.model.specs.Handed.{eventOf}
+use Rattle.runfile.specs.Fields.{byteAt}
+use Rattle.runfile.specs.Kinds.{createKind, operateKind, operateBytes, setValueKind, removeKind, signalKind, exitKind, queryKind}
 use Rattle.runfile.specs.Table.{fileMax, headBytes, entryBytes, countOf, Entry, entryAt, entriesFrom, tableOf, tableEnd, chains}
-use Rattle.runfile.specs.Body.{sizeOf, sizeAt, operationsAt, eventAt, bodyCode, nextAt, eventsFrom}
+use Rattle.runfile.specs.Body.{sizeOf, numberAt, sizeAt, operationsAt, eventAt, handedAt, bytesOf, bodyCode, nextAt, eventsFrom}
 use Rattle.runfile.specs.File.{File, bad, good, before, eventsOf, fileOf, codeOf, codeOfFile}
+-- of these this file uses the last; the crate replaying uses them all
+pub use Rattle.runfile.proofs.ByKind.{create-at, operate-at, set-value-at, remove-at, signal-at, exit-at, query-at, operate-size}
 
 -- a body of a known kind that lies within the file
 pub record Body (file : List ℕ) (at : ℕ) : Type 0 where
@@ -187,68 +193,52 @@ pub events-over : (file : List ℕ) (at n : ℕ) → eventsFrom file at (n - n) 
 unfolding eventsFrom
 events-over file at n = let e : n - n ≡ zero = omega arith in rw e
 
--- ---- a body by its kind
+-- ---- a body as it is read
+
+-- by cases on a test
+by-test : (b : Bool) (x y : Event) (m n : ℕ) → (b ≡ true → bytesOf x ≡ m) → (b ≡ false → bytesOf y ≡ n) → bytesOf (cond b x y) ≡ cond b m n
+by-test true x y m n p q = p refl
+by-test false x y m n p q = q refl
 
 module _ (file : List ℕ) (at : ℕ) where
-  pub create-at : byteAt file at ≡ 1 → eventAt file at ≡ create (byteAt file (at + 1)) (byteAt file (at + 2)) (byteAt file (at + 3))
-  unfolding eventAt
-  create-at h = rw h
-
-  pub operate-at : byteAt file at ≡ 2 → eventAt file at ≡ operate (byteAt file (at + 1)) (signedAt file (at + 2)) (operationsAt file at)
-  unfolding eventAt
-  operate-at h = rw h
-
-  pub set-value-at : byteAt file at ≡ 3 → eventAt file at ≡ setValue (signedAt file (at + 1)) (halfAt file (at + 5)) (signedAt file (at + 7))
-  unfolding eventAt
-  set-value-at h = rw h
-
-  pub remove-at : byteAt file at ≡ 4 → eventAt file at ≡ remove (signedAt file (at + 1))
-  unfolding eventAt
-  remove-at h = rw h
-
-  pub signal-at : byteAt file at ≡ 5 → eventAt file at ≡ signal (byteAt file (at + 1))
-  unfolding eventAt
-  signal-at h = rw h
-
-  pub exit-at : byteAt file at ≡ 6 → eventAt file at ≡ exit (byteAt file (at + 1))
-  unfolding eventAt
-  exit-at h = rw h
-
-  pub query-at : byteAt file at ≡ 7 → eventAt file at ≡ query (signedAt file (at + 1)) (halfAt file (at + 5))
-  unfolding eventAt
-  query-at h = rw h
-
-  -- the bytes due to a kind
-  pub size-is : (kind : ℕ) → byteAt file at ≡ kind → sizeAt file at ≡ sizeOf kind (byteAt file (at + 6))
-  unfolding sizeAt
-  size-is kind h = rw h
-
-  pub operate-size : byteAt file at ≡ 2 → sizeAt file at ≡ 7 + operationBytes * byteAt file (at + 6)
-  unfolding sizeOf
-  operate-size h = size-is 2 h
-
-  -- the operations of an operate lie within its body, and are the part of the file that is handed on
-  pub operations-inside : Body file at → byteAt file at ≡ 2 → at + 7 + operationBytes * byteAt file (at + 6) ≤ length file
-  operations-inside b h = omega (arith, b .inside, operate-size h)
-
-  pub operations-part : (from to : ℕ) → from ≡ at + 7 → to ≡ at + 7 + operationBytes * byteAt file (at + 6)
-      → take (to - from) (drop from file) ≡ operationsAt file at
+  operations-long : Body file at → byteAt file at ≡ operateKind → length (operationsAt file at) ≡ operationBytes * numberAt file at
   unfolding operationsAt
-  operations-part from to f t =
-      let e : to - from ≡ operationBytes * byteAt file (at + 6) = omega arith in
-      rw (e, f)
+  operations-long b k =
+      let l : operationBytes * numberAt file at ≤ length (drop (at + operateBytes) file) = simp length-drop (omega (arith, b .inside, operate-size file at k)) in
+      length-take-le _ _ l
 
-  -- a known kind that is none of the first six is a query
-  pub query-kind : Body file at → (byteAt file at ≡ 1 → ⊥) → (byteAt file at ≡ 2 → ⊥) → (byteAt file at ≡ 3 → ⊥)
-      → (byteAt file at ≡ 4 → ⊥) → (byteAt file at ≡ 5 → ⊥) → (byteAt file at ≡ 6 → ⊥) → byteAt file at ≡ 7
-  unfolding sizeAt sizeOf
-  query-kind b k₁ k₂ k₃ k₄ k₅ k₆ =
-      seventh (eqb (byteAt file at) 7) refl
-      (rw (ne-eqb _ _ k₁, ne-eqb _ _ k₂, ne-eqb _ _ k₃, ne-eqb _ _ k₄, ne-eqb _ _ k₅, ne-eqb _ _ k₆) at (b .known))
+  -- the bytes of its event are those of the body
+  pub body-bytes : Body file at → bytesOf (eventAt file at) ≡ sizeAt file at
+  unfolding eventAt sizeAt sizeOf
+  body-bytes b =
+      let k = byteAt file at in
+      by-test (eqb k createKind) _ _ _ _ (λ _. refl)
+      (λ n₁. by-test (eqb k operateKind) _ _ _ _ (λ o. ap (λ m. operateBytes + m) (operations-long b (eqb-true _ _ o)))
+      (λ n₂. by-test (eqb k setValueKind) _ _ _ _ (λ _. refl)
+      (λ n₃. by-test (eqb k removeKind) _ _ _ _ (λ _. refl)
+      (λ n₄. by-test (eqb k signalKind) _ _ _ _ (λ _. refl)
+      (λ n₅. by-test (eqb k exitKind) _ _ _ _ (λ _. refl)
+      (λ n₆. by-test (eqb k queryKind) _ _ _ _ (λ _. refl)
+      (λ n₇. absurd (none (rw (n₁, n₂, n₃, n₄, n₅, n₆, n₇) at (b .known))))))))))
     where
-      seventh : (t : Bool) → eqb (byteAt file at) 7 ≡ t → 0 < cond t 7 0 → byteAt file at ≡ 7
-      seventh true e h = eqb-true _ _ e
-      seventh false e h = absurd (none h)
-        where
-          none : 0 < 0 → ⊥
-          none z = omega arith
+      none : 0 < 0 → ⊥
+      none z = omega arith
+
+  -- what `event_at`, `operations_at` and `bytes_of` answer
+  module _ (e : declared.Event) {operations : List ℕ} (o : operations ≡ handedAt file at) (r : eventOf e (handedAt file at) ≡ eventAt file at) where
+    -- the event that is handed in is that of the body
+    pub event-read : eventOf e operations ≡ eventAt file at
+    event-read = rw o r
+
+    -- its bytes lead to the next body
+    pub size-read : {size : ℕ} → Body file at → size ≡ bytesOf (eventOf e operations) → size ≡ sizeAt file at
+    size-read b s = s ∙ ap bytesOf event-read ∙ body-bytes b
+
+-- ---- used by the crate replaying alone
+
+pub operations-part : (file : List ℕ) (at from to : ℕ) → from ≡ at + operateBytes → to ≡ at + operateBytes + operationBytes * numberAt file at
+    → take (to - from) (drop from file) ≡ operationsAt file at
+unfolding operationsAt
+operations-part file at from to f t =
+    let e : to - from ≡ operationBytes * numberAt file at = omega arith in
+    rw (e, f)

@@ -23,15 +23,17 @@ unfoldable pub eventsOf : List ℕ → List Entry → File
 eventsOf file [] = good []
 eventsOf file (e ∷ es) = before (bodyCode file (e .offset) (e .size)) (eventAt file (e .offset)) (eventsOf file es)
 
--- "over 65,535 bytes, or head or table cut off: 201; offsets or end not as said: 202; then by event"
+-- "offsets or end not as said: 202; then by event", with a table of n entries
+abbrev pub bodiesOf : List ℕ → ℕ → File
+bodiesOf file n = cond (chains (tableEnd n) (tableOf file n) (length file)) (eventsOf file (tableOf file n)) (bad 202)
+
+-- "over 65,535 bytes, or head or table cut off: 201"
 unfoldable pub fileOf : List ℕ → File
 fileOf file =
-    let n = countOf file in
     cond (ltb fileMax (length file)) (bad 201)
     (cond (ltb (length file) headBytes) (bad 201)
-    (cond (ltb (length file) (tableEnd n)) (bad 201)
-    (cond (chains (tableEnd n) (tableOf file n) (length file)) (eventsOf file (tableOf file n))
-    (bad 202))))
+    (cond (ltb (length file) (tableEnd (countOf file))) (bad 201)
+    (bodiesOf file (countOf file))))
 
 -- the code of a file, 0 if it is good
 unfoldable pub codeOf : File → ℕ

@@ -1,97 +1,166 @@
--- What every event may use of the host it is handed, and how a step answers what the checks say.
+-- What every event may use of the host that it is lent, and what it leaves: a refusal, or what a waking leaves.
 use Prim.Native.Nat.{ℕ, zero, suc, _≤_}
 use native.Mathlib.Omega.{arith}
-use mathlib.Core.Path.{_≡_, refl, ap, _∙_}
+use mathlib.Core.Path.{_≡_, refl, sym, ap, ap₂, subst, _∙_}
 use mathlib.Core.List.{List, []}
+use lib.IntN.{ℤ, pos}
 use lib.ListN.{length}
-use lib.IntN.{pos}
-use Rattle.model.specs.declared.Host.{Host}
 use Rattle.model.specs.declared.Set.{Set}
-use Rattle.model.specs.declared.Step.{Step}
+use Rattle.model.specs.declared.Engine.{Engine}
+use Rattle.model.specs.declared.Told.{Told}
+use Rattle.model.specs.declared.Waking.{Waking}
 use Rattle.model.specs.Limits.{slots, semaphores, processes, allSemaphores, allAdjustments}
-use Rattle.model.specs.State.{State, Table, Sleeper}
-use Rattle.model.specs.Events.{Result, checked, refused, world}
-use Rattle.model.specs.Layout.{Held, stateOf, lineOf, arraysOf, wakingsOf, stepOf}
+use Rattle.model.specs.State.{Table, Sleeper, State}
+use Rattle.model.specs.Waking.{World, Ended, waker}
+use Rattle.model.specs.Events.{Result, refused, checked, wokenAs, world, treatFrom}
 use Rattle.model.specs.Runs.{All}
-use Rattle.model.specs.Invariant.{Invariant, Good, Fits, Distinct, countAt}
+use Rattle.model.specs.Invariant.{Good, Fits, Distinct, Invariant, Calm, countAt}
+use Rattle.model.proofs.Lists.{all-map}
 use Rattle.model.proofs.Engines.{reached}
-use Rattle.model.proofs.LayoutLaws.{queued}
 use Rattle.model.proofs.LookLaws.{count-fits}
-use Rattle.service.specs.declared.Woken.{Woken}
-use Rattle.service.specs.Line.{Holds, Lined}
-use Rattle.service.specs.Parts.{IsArrays, Ready, parts, partsOf}
-use Rattle.service.proofs.LineLaws.{lined, few, all-arrays, asleep-of}
-use Rattle.service.proofs.PartsLaws.{parts-ready}
+use Rattle.host.specs.Parts.{Part, generations, counts, readers, alterers, values, lasts, asleep, order, sleepsAt, sizes, names, arrays, Row}
+use Rattle.host.specs.Holding.{Host, withQueue, withTable, hostOf, hostWith, setsIn, queueIn, tableIn, stateIn, Held}
+use Rattle.host.specs.Queue.{Queued, Lined}
+use Rattle.host.proofs.PartLaws.{by-values}
+use Rattle.host.proofs.QueueRows.{queued}
+use Rattle.wakings.specs.Wakings.{listOf}
+use Rattle.service_table.specs.Written.{tabled}
+use Rattle.service_queue.specs.Seated.{Seated}
+use Rattle.service_waking.specs.declared.Tally.{Tally}
+use Rattle.service_waking.specs.Lent.{Lent, Left, worldIn, lentWith, leftWith, unwoken, Ready, treated, treatedFrom}
+use Rattle.service_waking.proofs.LentLaws.{queue-over, table-under, with-ready, world-back}
+use Rattle.service.specs.After.{After, telling, afterOf}
 
 -- ---- a host that holds a state
 
-module _ (h : Host) (k : Held h) where
+module _ (x : Host) (k : Held x) where
   abbrev queue : List Sleeper
-  queue = stateOf h .queue
+  queue = queueIn (x .row)
 
-  pub held-invariant : Invariant (stateOf h)
+  pub held-invariant : Invariant (stateIn x)
   held-invariant = reached (k .reached)
 
-  pub held-lined : Lined (h .line) (h .arrays)
-  held-lined = lined h (k .holds) held-invariant
+  pub held-queued : Queued (queueIn (x .row))
+  held-queued = queued (queueIn (x .row)) (held-invariant .fits) (held-invariant .distinct)
 
-  pub held-line : h .line ≡ lineOf queue
-  held-line = held-lined .holds .places
+  at : (p : Part) → x .row p ≡ hostOf (stateIn x) .row p
+  at p = ap (λ (y : Host). y .row p) (k .holds)
 
-  pub held-arrays : h .arrays ≡ arraysOf queue
-  held-arrays = held-lined .holds .bytes
+  pub held-lined : Lined (x .row)
+  held-lined = record { holds = by-values each; fits = held-queued }
+    where
+      each : (p : Part) → x .row p ≡ withQueue (x .row) (queueIn (x .row)) p
+      each generations = refl
+      each counts = refl
+      each readers = refl
+      each alterers = refl
+      each values = refl
+      each lasts = refl
+      each asleep = at asleep
+      each order = at order
+      each sleepsAt = at sleepsAt
+      each sizes = at sizes
+      each names = at names
+      each arrays = at arrays
 
-  pub held-asleep : h .line .asleep ≡ length queue
-  held-asleep = asleep-of (held-lined .holds) (held-lined .fits)
-
-  pub held-few : h .line .asleep ≤ processes
-  held-few = few (held-lined .holds) (held-lined .fits)
+  pub held-seated : Seated (x .row)
+  held-seated = record { lined = held-lined; some = all-map (λ s f. f .some) (held-invariant .fits) }
 
   -- every set has at most eight semaphores
-  pub held-counts : (slot : ℕ) → countAt (h .sets) slot ≤ semaphores
+  pub held-counts : (slot : ℕ) → countAt (setsIn (x .row)) slot ≤ semaphores
   held-counts = count-fits (held-invariant .counts)
 
-  -- how long its arrays are
-  pub held-sets : length (h .sets) ≡ slots
-  held-sets = held-invariant .sets
+  -- another table and queue, with the sets as they are
+  pub host-of : (t : Table) (q : List Sleeper) → hostWith x t q ≡ hostOf (record { sets = setsIn (x .row); table = t; queue = q })
+  host-of t q = ap (λ (r : Row). record { row = r; adjustments = t .adjustments }) (by-values each)
+    where
+      each : (p : Part) → withQueue (withTable (x .row) t) q p ≡ hostOf (record { sets = setsIn (x .row); table = t; queue = q }) .row p
+      each generations = at generations
+      each counts = at counts
+      each readers = at readers
+      each alterers = at alterers
+      each values = refl
+      each lasts = refl
+      each asleep = refl
+      each order = refl
+      each sleepsAt = refl
+      each sizes = refl
+      each names = refl
+      each arrays = refl
 
-  pub held-values : length (h .values) ≡ allSemaphores
-  held-values = held-invariant .good .values
+  -- another table alone
+  pub tabled-with : (t : Table) → tabled x t ≡ hostWith x t (queueIn (x .row))
+  tabled-with t =
+      ap (λ (r : Row). record { row = r; adjustments = t .adjustments })
+      (ap (λ (r : Row). withTable r t) (held-lined .holds) ∙ table-under (x .row) t (queueIn (x .row)))
 
-  pub held-lasts : length (h .lasts) ≡ allSemaphores
-  held-lasts = held-invariant .good .lasts
+  -- .. as a waking is lent it
+  pub poised-lent : (t : Table) {y : Host} {l : List Waking} → y ≡ tabled x t → l ≡ listOf [] → record { host = y; wakings = l; woken = 0 } ≡ unwoken x t (queueIn (x .row))
+  poised-lent t ey el = ap₂ (λ (h : Host) (w : List Waking). record { host = h; wakings = w; woken = 0 }) (ey ∙ tabled-with t) el
 
-  pub held-adjustments : length (h .adjustments) ≡ allAdjustments
-  held-adjustments = held-invariant .good .adjustments
+  -- ---- answers
 
-  pub held-bytes : IsArrays (h .arrays)
-  held-bytes = all-arrays (held-lined .holds) (held-lined .fits)
+  -- "A refused event returns its code, value 0, no looks and no wakings; the state is unchanged."
+  pub after-refused : (code : ℕ) (does : Result) {told : Told} {wakings : List Waking} → (code ≡ 0 → ⊥) → wakings ≡ listOf [] → told ≡ telling (pos code) 0 0 0
+      → record { host = x; wakings = wakings; told = told } ≡ afterOf (checked code (stateIn x) does)
+  after-refused zero does n ew et = absurd (n refl)
+  after-refused (suc code) does {told} {wakings} n ew et =
+      ap₂ (λ (l : List Waking) (u : Told). record { host = x; wakings = l; told = u }) ew et
+      ∙ ap (λ (y : Host). record { host = y; wakings = listOf []; told = telling (pos (suc code)) 0 0 0 }) (k .holds)
 
--- ---- parts that a waking can begin with: a table and a queue as an event leaves them, and no wakings yet
+  -- .. with the code that the checks found
+  pub refused-after : {found code : ℕ} (does : Result) {told : Told} {wakings : List Waking} → found ≡ code → (found ≡ 0 → ⊥) → wakings ≡ listOf [] → told ≡ telling (pos found) 0 0 0
+      → record { host = x; wakings = wakings; told = told } ≡ afterOf (checked code (stateIn x) does)
+  refused-after {found} {code} does e n ew et = after-refused code does (λ z. n (e ∙ z)) ew (et ∙ ap (λ (c : ℕ). telling (pos c) 0 0 0) e)
 
-pub ready-with : (sets : List Set) (t : Table) (q : List Sleeper) {arrays : List ℕ} (w : Woken) → ((slot : ℕ) → countAt sets slot ≤ semaphores)
-    → Good t → All (Fits sets) q → Distinct q → Holds (w .line) arrays q → w .wakings ≡ wakingsOf [] → Ready (parts (t .values) (t .lasts) (t .adjustments) arrays w)
-unfolding partsOf
-ready-with sets t q {arrays} w counts g f d o e =
-    let room : length q ≤ processes = queued q f d .few in
-    let same : parts (t .values) (t .lasts) (t .adjustments) arrays w ≡ partsOf (world t q) = rw (o .places, o .bytes, e) in
-    rw same (parts-ready sets (world t q) counts (record { good = g; fits = f; distinct = d; room = omega (arith, room) }))
+  -- ---- what a waking begins with, and what it leaves
 
--- ---- answers
+  module _ (t : Table) (q : List Sleeper) (g : Good t) (f : All (Fits (setsIn (x .row))) q) (d : Distinct q) where
+    calm : Calm (setsIn (x .row)) (world t q)
+    calm = let few : length q ≤ processes = queued q f d .few in record { good = g; fits = f; distinct = d; room = omega (arith, few) }
+
+    begin : Lent
+    begin = record { host = x; wakings = []; woken = 0 }
+
+    poised : unwoken x t q ≡ lentWith begin (world t q)
+    unfolding begin lentWith
+    poised = refl
+
+    pub poised-ready : Ready (unwoken x t q)
+    unfolding begin
+    poised-ready = subst Ready (sym poised) (with-ready begin (world t q) (held-counts) calm)
+
+    pub poised-world : worldIn (unwoken x t q) ≡ world t q
+    unfolding begin
+    poised-world = ap worldIn poised ∙ world-back begin (setsIn (x .row)) (world t q) calm
+
+    -- a rule's end is the state after the event
+    pub after-woken : (e : Ended) {y : Left} {told : Told} → y ≡ leftWith (unwoken x t q) e → told ≡ telling (pos 0) 0 (y .looks) (y .lent .woken)
+        → record { host = y .lent .host; wakings = y .lent .wakings; told = told } ≡ afterOf (wokenAs (stateIn x) e)
+    unfolding lentWith
+    after-woken e {y} {told} ey et =
+        ap (λ (u : Told). record { host = y .lent .host; wakings = y .lent .wakings; told = u }) et
+        ∙ ap (λ (z : Left). record { host = z .lent .host; wakings = z .lent .wakings; told = telling (pos 0) 0 (z .looks) (z .lent .woken) }) ey
+        ∙ ap (λ (h : Host). record { host = h; wakings = listOf (e .world .wakings); told = telling (pos 0) 0 (e .looks) (length (e .world .wakings)) })
+        (ap (λ (r : Row). record { row = r; adjustments = e .world .table .adjustments }) (queue-over (x .row) t (e .world .table) q (e .world .queue))
+        ∙ host-of (e .world .table) (e .world .queue))
+
+    -- one set, and every live set
+    pub after-treated : (engine : Engine) (slot touched : ℕ) {y : Left} {told : Told} → y ≡ treated engine slot touched (unwoken x t q) 0 → told ≡ telling (pos 0) 0 (y .looks) (y .lent .woken)
+        → record { host = y .lent .host; wakings = y .lent .wakings; told = told } ≡ afterOf (wokenAs (stateIn x) (waker engine slot touched (world t q) 0))
+    after-treated engine slot touched ey et = after-woken (waker engine slot touched (world t q) 0) (ey ∙ ap (λ (w : World). leftWith (unwoken x t q) (waker engine slot touched w 0)) poised-world) et
 
 -- what an event does, once no check applies
 pub goes-on : {code : ℕ} (s : State) (does : Result) → code ≡ 0 → does ≡ checked code s does
 goes-on s does e = rw e
 
--- the code of a check that applies
-pub refuses : (code : ℕ) (s : State) (does : Result) → (code ≡ 0 → ⊥) → refused s code ≡ checked code s does
-refuses zero s does n = absurd (n refl)
-refuses (suc code) s does n = refl
+-- a waking that begins with nobody looked at
+module _ {h : Host} {ws : List Waking} {u : Lent} {t : Tally} (n : (t .looks ≡ 0) × (t .woken ≡ 0)) (e : record { host = h; wakings = ws; woken = 0 } ≡ u) where
+  lent-so : record { host = h; wakings = ws; woken = t .woken } ≡ u
+  lent-so = ap (λ (w : ℕ). record { host = h; wakings = ws; woken = w }) (n .1) ∙ e
 
-abbrev pub refusedStep : Host → ℕ → Step
-refusedStep h code = record { host = h; code = pos code; value = 0; looks = 0; wakings = wakingsOf [] }
+  pub begun-ready : Ready u → Ready (record { host = h; wakings = ws; woken = t .woken })
+  begun-ready r = subst Ready (sym lent-so) r
 
--- "A refused event returns its code, value 0, no looks and no wakings; the state is unchanged."
-pub step-refused : (h : Host) → Held h → (code : ℕ) (does : Result) → (code ≡ 0 → ⊥) → refusedStep h code ≡ stepOf (checked code (stateOf h) does)
-step-refused h k code does n =
-    ap (λ (x : Host). refusedStep x code) (k .holds) ∙ ap (λ (r : Result). stepOf r) (refuses code (stateOf h) does n)
+  pub begun : (f : Lent → ℕ → Left) {y : Left} → y ≡ f (record { host = h; wakings = ws; woken = t .woken }) (t .looks) → y ≡ f u 0
+  begun f ey = ey ∙ ap₂ f lent-so (n .0)

@@ -1,30 +1,32 @@
 -- Exit, once no check applies.
 use Prim.Native.Nat.{ℕ}
-use mathlib.Core.Path.{_≡_, refl, _∙_, ap}
-use mathlib.Core.List.{List}
-use lib.ListN.{length}
+use mathlib.Core.Path.{_≡_, refl, sym, ap, ap₂, _∙_}
+use mathlib.Core.List.{List, []}
 use lib.IntN.{ℤ, pos}
+use lib.ListN.{length}
 use Rattle.model.specs.declared.Engine.{Engine}
-use Rattle.model.specs.declared.Host.{Host}
-use Rattle.model.specs.declared.Line.{Line}
+use Rattle.model.specs.declared.Told.{Told}
+use Rattle.model.specs.declared.Waking.{Waking}
 use Rattle.model.specs.Limits.{slots}
-use Rattle.model.specs.State.{Table}
+use Rattle.model.specs.State.{Table, Sleeper}
 use Rattle.model.specs.Checks.{checkProcess}
-use Rattle.model.specs.Waking.{waker}
-use Rattle.model.specs.Events.{exited, keep, touchedFrom, doExit}
-use Rattle.model.specs.Layout.{Held, stateOf, stepOf, tableOf}
+use Rattle.model.specs.Waking.{World, waker}
+use Rattle.model.specs.Events.{exited, keep, touchedFrom, treatFrom, world, doExit}
 use Rattle.model.specs.Runs.{All}
 use Rattle.model.specs.Invariant.{Good, Fits, Distinct}
 use Rattle.model.proofs.CheckLaws.{process-passes}
-use Rattle.model.proofs.QueueLaws.{notOf, keep-all, keep-distinct}
+use Rattle.model.proofs.QueueLaws.{keep-all, keep-distinct}
 use Rattle.model.proofs.TableLaws.{exited-good}
-use Rattle.service.specs.declared.Woken.{Woken}
-use Rattle.service.specs.Table.{IsProcess}
-use Rattle.service.specs.Line.{Holds}
-use Rattle.service.specs.Parts.{Ready, parts, left, treatedFrom}
-use Rattle.service.specs.Told.{stepWith, unwokenAt, telling}
-use Rattle.service.proofs.EventLaws.{held-invariant, goes-on}
-use Rattle.service.proofs.ToldLaws.{told-woken, poised-ready, poised-all}
+use Rattle.host.specs.Parts.{Row}
+use Rattle.host.specs.Holding.{Host, withQueue, withTable, setsFrom, setsIn, hostWith, queueIn, tableIn, stateIn, Held}
+use Rattle.wakings.specs.Wakings.{listOf}
+use Rattle.service_table.specs.Numbered.{IsProcess}
+use Rattle.service_table.specs.Written.{tabled}
+use Rattle.service_queue.specs.Seated.{notOf}
+use Rattle.service_waking.specs.Lent.{Lent, Left, leftWith, unwoken, Ready, treatedFrom}
+use Rattle.service_waking.proofs.LentLaws.{table-under}
+use Rattle.service.specs.After.{telling, afterOf}
+use Rattle.service.proofs.EventLaws.{held-invariant, poised-ready, poised-world, after-woken, goes-on}
 
 pub touched-size : (t t′ : Table) → length (touchedFrom slots 0 t t′) ≡ slots
 unfolding touchedFrom
@@ -33,25 +35,51 @@ touched-size t t′ = refl
 pub exit-process : (p : ℕ) → checkProcess p ≡ 0 → IsProcess p
 exit-process p z = record { least = process-passes p z .0; most = process-passes p z .1 }
 
--- the parts after the process left and its adjustments were undone
-module _ (h : Host) (k : Held h) (p : ℕ) (z : checkProcess p ≡ 0) {values arrays : List ℕ} {adjustments : List ℤ} {line : Line} (o : Holds line arrays (keep (notOf p) (stateOf h .queue)))
-    (et : tableOf values (h .lasts) adjustments ≡ exited (tableOf (h .values) (h .lasts) (h .adjustments)) p) where
-  good : Good (exited (stateOf h .table) p)
-  good = exited-good (stateOf h .table) p (held-invariant h k .good) (process-passes p z .0) (process-passes p z .1)
+-- the sets do not lie in the queue's parts or the table's
+exit-sets : (r : Row) (t : Table) (q : List Sleeper) → setsIn (withQueue (withTable r t) q) ≡ setsIn r
+unfolding setsFrom
+exit-sets r t q = refl
 
-  fits : All (Fits (h .sets)) (keep (notOf p) (stateOf h .queue))
-  fits = keep-all (notOf p) (stateOf h .queue) (held-invariant h k .fits)
+module _ (x : Host) (k : Held x) (p : ℕ) (z : checkProcess p ≡ 0) where
+  abbrev rest : List Sleeper
+  rest = keep (notOf p) (queueIn (x .row))
 
-  distinct : Distinct (keep (notOf p) (stateOf h .queue))
-  distinct = keep-distinct (notOf p) (stateOf h .queue) (held-invariant h k .distinct)
+  good : Good (exited (tableIn x) p)
+  good = exited-good (tableIn x) p (held-invariant x k .good) (process-passes p z .0) (process-passes p z .1)
 
-  pub exit-ready : Ready (parts values (h .lasts) adjustments arrays (unwokenAt line))
-  exit-ready = poised-ready h k _ (keep (notOf p) (stateOf h .queue)) good fits distinct et o
+  fits : All (Fits (setsIn (x .row))) (keep (notOf p) (queueIn (x .row)))
+  fits = keep-all (notOf p) (queueIn (x .row)) (held-invariant x k .fits)
 
-  pub exit-told : (engine : Engine) (code : ℤ) (w : Woken) {values′ lasts′ arrays′ touched : List ℕ} {adjustments′ : List ℤ} → touched ≡ touchedFrom slots 0 (stateOf h .table) (exited (stateOf h .table) p) → code ≡ pos 0
-      → left values′ lasts′ adjustments′ arrays′ w ≡ treatedFrom engine (h .sets) 0 touched (parts values (h .lasts) adjustments arrays (unwokenAt line)) 0
-      → stepWith values′ lasts′ adjustments′ arrays′ (telling (h .sets) code w) ≡ stepOf (doExit (waker engine) (stateOf h) p)
+  distinct : Distinct (keep (notOf p) (queueIn (x .row)))
+  distinct = keep-distinct (notOf p) (queueIn (x .row)) (held-invariant x k .distinct)
+
+  -- the process has left, and its adjustments are undone
+  pub exit-lent : {r : Row} {y : Host} {l : List Waking} → r ≡ withQueue (x .row) (keep (notOf p) (queueIn (x .row)))
+      → y ≡ tabled (record { row = r; adjustments = x .adjustments }) (exited (tableIn (record { row = r; adjustments = x .adjustments })) p) → l ≡ listOf []
+      → record { host = y; wakings = l; woken = 0 } ≡ unwoken x (exited (tableIn x) p) (keep (notOf p) (queueIn (x .row)))
+  exit-lent {r} {y} {l} er ey el =
+      ap₂ (λ (h : Host) (w : List Waking). record { host = h; wakings = w; woken = 0 })
+      (ey ∙ ap (λ (a : Row). tabled (record { row = a; adjustments = x .adjustments }) (exited (tableIn (record { row = a; adjustments = x .adjustments })) p)) er
+      ∙ ap (λ (a : Row). record { row = a; adjustments = exited (tableIn x) p .adjustments }) (table-under (x .row) (exited (tableIn x) p) (keep (notOf p) (queueIn (x .row)))))
+      el
+
+  -- .. the masks that were gathered meanwhile
+  pub exit-touched : {r : Row} {touched : List ℕ} → r ≡ withQueue (x .row) (keep (notOf p) (queueIn (x .row)))
+      → touched ≡ touchedFrom slots 0 (tableIn (record { row = r; adjustments = x .adjustments })) (exited (tableIn (record { row = r; adjustments = x .adjustments })) p)
+      → touched ≡ touchedFrom slots 0 (tableIn x) (exited (tableIn x) p)
+  exit-touched er et =
+      et ∙ ap (λ (a : Row). touchedFrom slots 0 (tableIn (record { row = a; adjustments = x .adjustments })) (exited (tableIn (record { row = a; adjustments = x .adjustments })) p)) er
+
+  pub exit-ready : Ready (unwoken x (exited (tableIn x) p) (keep (notOf p) (queueIn (x .row))))
+  exit-ready = poised-ready x k _ (keep (notOf p) (queueIn (x .row))) good fits distinct
+
+  pub exit-after : (engine : Engine) {touched : List ℕ} {y : Left} {told : Told} → touched ≡ touchedFrom slots 0 (tableIn x) (exited (tableIn x) p)
+      → y ≡ treatedFrom engine 0 touched (unwoken x (exited (tableIn x) p) (keep (notOf p) (queueIn (x .row)))) 0 → told ≡ telling (pos 0) 0 (y .looks) (y .lent .woken)
+      → record { host = y .lent .host; wakings = y .lent .wakings; told = told } ≡ afterOf (doExit (waker engine) (stateIn x) p)
   unfolding doExit
-  exit-told engine code w em c q =
-      told-woken (stateOf h) _ code w c (q ∙ rw em (poised-all h k _ (keep (notOf p) (stateOf h .queue)) good fits distinct et o engine (h .sets) (touchedFrom slots 0 (stateOf h .table) (exited (stateOf h .table) p)) 0))
-      ∙ ap stepOf (goes-on (stateOf h) _ z)
+  exit-after engine em ey et =
+      after-woken x k _ (keep (notOf p) (queueIn (x .row))) good fits distinct
+      (treatFrom (waker engine) (setsIn (x .row)) 0 (touchedFrom slots 0 (tableIn x) (exited (tableIn x) p)) (record { world = world (exited (tableIn x) p) (keep (notOf p) (queueIn (x .row))); looks = 0 }))
+      (ey ∙ rw (em, poised-world x k _ (keep (notOf p) (queueIn (x .row))) good fits distinct, exit-sets (x .row) (exited (tableIn x) p) (keep (notOf p) (queueIn (x .row)))))
+      et
+      ∙ ap afterOf (goes-on (stateIn x) _ z)

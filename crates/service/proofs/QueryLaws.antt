@@ -1,41 +1,81 @@
 -- Who waits at a semaphore: the operation where a sleeper stops, and the masks of a walk over the queue.
-use Prim.Native.Nat.{ℕ, zero, suc, _+_, _*_, _-_, _/_, _≤_, _<_}
+use Prim.Native.Nat.{ℕ, zero, suc, _+_, _*_, _-_, _/_, _%_, _^_, _≤_, _<_}
 use native.Mathlib.Nat.{not-suc-le-zero, le-of-suc-le-suc}
 use native.Mathlib.Omega.{arith}
-use mathlib.Core.Path.{_≡_, refl, sym, ap, _∙_}
+use mathlib.Core.Path.{_≡_, refl, sym, ap, ap₂, _∙_}
 use mathlib.Core.Bool.{Bool, true, false, cond}
 use mathlib.Core.List.{List, [], _∷_}
-use lib.Bits.{bitOr, or-zero-r}
+use lib.Bits.{bitAnd, bitOr, or-zero-r}
 use lib.Count.{ones}
 use lib.IntN.{ℤ, pos}
-use lib.ListN.{length, getD, take, drop, List·getD-map, length-map, length-drop, drop-of-length-le}
-use lib.Seq.{getD-drop, getD-take, length-take-le}
+use lib.ListN.{length, getD, drop, drop-of-length-le}
 use borrow.Author.Tests.{eq-eqb, ne-eqb}
-use Rattle.model.specs.declared.Host.{Host}
-use Rattle.model.specs.declared.Line.{Line}
-use Rattle.model.specs.declared.Place.{Place}
 use Rattle.model.specs.declared.Copies.{Copies}
 use Rattle.model.specs.declared.Judged.{Judged}
 use Rattle.model.specs.declared.Operation.{Operation}
 use Rattle.model.specs.declared.Outcome.{Outcome}
 use Rattle.model.specs.declared.Outcome.the-variants.{Done, Sleep, Again, Range}
-use Rattle.model.specs.Limits.{processes, operationBytes, arrayBytes}
-use Rattle.model.specs.State.{Table, Sleeper, row}
-use Rattle.model.specs.Operation.{two, signed16, operationAt, operationsFrom, operationsOf, isNegative}
+use Rattle.model.specs.Limits.{slots, semaphores, operationBytes}
+use Rattle.model.specs.State.{Table, Sleeper, noSleeper, row}
+use Rattle.model.specs.Operation.{operationAt, operationsFrom, operationsOf, isNegative, hasBit}
 use Rattle.model.specs.Judge.{step, goOn, judgeFrom, finishes}
-use Rattle.model.specs.Look.{look, valuesOf, adjustmentsOf, copiesOf}
-use Rattle.model.specs.Marks.{bitOf, mine, maskOf}
+use Rattle.model.specs.Look.{look, copiesOf}
+use Rattle.model.specs.Marks.{bitOf, mine, named, maskOf}
 use Rattle.model.specs.Checks.{slotOf, checkNumber}
 use Rattle.model.specs.Counts.{noOperation, stop, stopsAt, forIncrease, forZero}
-use Rattle.model.specs.Events.{Result, answer, seenAt, doQuery}
-use Rattle.model.specs.Layout.{Held, noPlace, sleeperAt, queueOf, stateOf, wakingsOf, queriedOf}
-use Rattle.model.proofs.Lists.{drop-at}
+use Rattle.model.specs.Events.{Result, answer, checked, seenAt, doQuery}
+use Rattle.model.proofs.Lists.{drop-at, all-at}
+use Rattle.model.proofs.LookLaws.{numbers-fit}
+use Rattle.model.proofs.CheckLaws.{number-passes}
 use Rattle.model.proofs.Ones.{ones-mask}
-use Rattle.model.proofs.LayoutLaws.{length-places}
-use Rattle.service.specs.Parts.{Ready, Placed, IsArrays, parts, lookIn}
-use Rattle.service.specs.Query.{Seated, Waits, Waiting, lookTable, bitIf}
-use Rattle.service.proofs.PartsLaws.{the-placed}
-use Rattle.service.proofs.EventLaws.{held-invariant, held-line, held-lined, held-few, held-counts, held-bytes, ready-with, refuses}
+use Rattle.model.proofs.TableLaws.{unnamed-other}
+use Rattle.host.specs.Parts.{values, lasts, order, sleepsAt, names, Row}
+use Rattle.host.specs.Holding.{Host, entry, arrayIn, queueIn, tableIn, stateIn, Held}
+use Rattle.host.proofs.QueueRows.{names-read}
+use Rattle.service_table.specs.Numbered.{IsProcess}
+use Rattle.service_waking.specs.Lent.{Settleable}
+use Rattle.service_waking.proofs.SettleLaws.{settled-process, settled-slot, settled-array}
+use Rattle.service_waking.proofs.Marking.{shifted}
+use Rattle.service.specs.declared.events.query.Waiters.{Waiters}
+use Rattle.service.specs.After.{queriedOf}
+use Rattle.service.specs.Waiting.{bitIf, waitsOf, waitersOf}
+use Rattle.service.proofs.EventLaws.{held-invariant, held-lined, held-counts}
+
+-- ---- the sleeper at a position of a host that holds a state: it can be looked at, and what is read by its process is its own
+
+module _ (x : Host) (k : Held x) (at : ℕ) (h : at < length (queueIn (x .row))) where
+  abbrev sleeper : Sleeper
+  sleeper = getD (queueIn (x .row)) at noSleeper
+
+  pub held-settleable : Settleable x at
+  held-settleable =
+      let v = held-invariant x k in
+      let f = all-at (queueIn (x .row)) at noSleeper (v .fits) h in
+      record { lined = held-lined x k; there = h; fits = f; numbered = numbers-fit (v .counts) sleeper f; good = v .good }
+
+  module _ {process : ℕ} (ep : process ≡ getD (x .row order) at 0) where
+    pub process-own : process ≡ getD (queueIn (x .row)) at noSleeper .process
+    process-own = ep ∙ settled-process x at held-settleable
+
+    pub process-there : IsProcess process
+    process-there = let f = held-settleable .fits in record { least = omega (arith, process-own, f .process); most = omega (arith, process-own, f .last) }
+
+    pub slot-own : {slot : ℕ} → slot ≡ getD (x .row sleepsAt) (entry process) 0 → slot ≡ getD (queueIn (x .row)) at noSleeper .slot
+    slot-own e = e ∙ ap (λ (p : ℕ). getD (x .row sleepsAt) (entry p) 0) ep ∙ settled-slot x at held-settleable
+
+    pub array-own : {bytes : List ℕ} → bytes ≡ arrayIn (x .row) process → bytes ≡ getD (queueIn (x .row)) at noSleeper .array
+    array-own e = e ∙ ap (arrayIn (x .row)) ep ∙ settled-array x at held-settleable
+
+    names-own : {mask : ℕ} → mask ≡ getD (x .row names) (entry process) 0 → mask ≡ named (getD (queueIn (x .row)) at noSleeper)
+    names-own e =
+        let l = held-lined x k in
+        e ∙ ap (λ (p : ℕ). getD (x .row names) (entry p) 0) process-own
+        ∙ ap (λ (r : Row). getD (r names) (entry (sleeper .process)) 0) (l .holds)
+        ∙ names-read (queueIn (x .row)) (l .fits) at h (x .row)
+
+    -- `names & (1u8 << n)`
+    pub unnamed : {mask n : ℕ} → mask ≡ getD (x .row names) (entry process) 0 → n < semaphores → bitAnd mask (1 * 2 ^ n % 256) ≡ 0 → hasBit (named (getD (queueIn (x .row)) at noSleeper)) (2 ^ n) ≡ false
+    unnamed {mask} {n} e l z = rw (← names-own e, eq-eqb _ _ (ap (bitAnd mask) (sym (shifted n l)) ∙ z))
 
 -- ---- where a sleeper stops
 
@@ -70,186 +110,141 @@ operation-there bytes at (suc n) (suc k) h =
 
 -- ---- what a sleeper waits for
 
+abbrev pub noWaiters : Waiters
+noWaiters = record { increase = 0; zero = 0 }
+
 module _ (t : Table) (slot n : ℕ) (s : Sleeper) where
-  waits-not : stopsAt t slot n s ≡ false → Waits t slot n s 0 0
+  waits-not : stopsAt t slot n s ≡ false → noWaiters ≡ waitsOf t slot n s
   unfolding forIncrease forZero
-  waits-not e = record { increases = rw e; zeros = rw e }
+  waits-not e = rw e
 
-  waits-for : (b : Bool) → stopsAt t slot n s ≡ true → isNegative (stop t s .amount) ≡ b → Waits t slot n s (cond b (bitOf (s .process)) 0) (cond b 0 (bitOf (s .process)))
+  waits-for : (b : Bool) → stopsAt t slot n s ≡ true → isNegative (stop t s .amount) ≡ b → record { increase = cond b (bitOf (s .process)) 0; zero = cond b 0 (bitOf (s .process)) } ≡ waitsOf t slot n s
   unfolding forIncrease forZero
-  waits-for true e f = record { increases = rw (e, f); zeros = rw (e, f) }
-  waits-for false e f = record { increases = rw (e, f); zeros = rw (e, f) }
+  waits-for true e f = rw (e, f)
+  waits-for false e f = rw (e, f)
 
--- the sleeper of a place, judged with the values v and the adjustments a
-module _ (v : List ℕ) (a : List ℤ) (arrays : List ℕ) (place : Place) (bytes : IsArrays arrays) (placed : Placed arrays place) where
-  abbrev table : Table
-  table = lookTable v a
+  -- at another set
+  pub waits-elsewhere : (s .slot ≡ slot → ⊥) → noWaiters ≡ waitsOf t slot n s
+  unfolding stopsAt mine
+  waits-elsewhere x = waits-not (rw (ne-eqb _ _ x))
 
-  abbrev sleeper : Sleeper
-  sleeper = sleeperAt arrays place
+  module _ {o : Outcome} (eo : o ≡ look t s .outcome) (here : s .slot ≡ slot) where
+    -- nowhere
+    pub waits-nowhere : finishes o ≡ true → noWaiters ≡ waitsOf t slot n s
+    unfolding stopsAt mine
+    waits-nowhere f = waits-not (rw (eq-eqb _ _ here, ← eo, f))
 
-  -- where its array begins in the bytes
-  abbrev from : ℕ
-  from = arrayBytes * (place .process - 1)
+    -- it would sleep, at an operation whose six bytes are its own
+    module _ {at : ℕ} (ea : at ≡ look t s .position) (f : finishes o ≡ false) where
+      position-small : at < length (s .array) / operationBytes
+      unfolding look
+      position-small =
+          let w : look t s .position < 0 + length (operationsOf (s .array)) =
+          stops-within (copiesOf t s) (operationsOf (s .array)) (copiesOf t s) 0 (ap finishes (sym eo) ∙ f) in
+          omega (arith, rw (← ea, length-operations (s .array) 0 (length (s .array) / operationBytes)) at w)
 
-  room : from + place .size ≤ length arrays
-  room = omega (arith, bytes, placed .process .least, placed .process .most, placed .size)
+      pub stop-within : operationBytes * at + operationBytes ≤ length (s .array)
+      stop-within = omega (arith, position-small)
 
-  long : length (sleeper .array) ≡ place .size
-  long = length-take-le (place .size) (drop from arrays) (simp length-drop (omega (arith, room)))
+      stop-is : stop t s ≡ operationAt (s .array) (operationBytes * at)
+      unfolding stop
+      stop-is =
+          let z : 0 + operationBytes * at ≡ operationBytes * at = omega arith in
+          rw (← ea) (operation-there (s .array) 0 (length (s .array) / operationBytes) at position-small ∙ ap (operationAt (s .array)) z)
 
-  byte-there : (b : ℕ) → b < place .size → getD (sleeper .array) b 0 ≡ getD arrays (from + b) 0
-  byte-there b h = getD-take (place .size) (drop from arrays) b 0 h ∙ getD-drop from arrays b 0
-
-  -- it would sleep, at an operation whose six bytes are its own
-  module _ {j : Judged} (e : j ≡ lookIn v a arrays place) (f : finishes (j .outcome) ≡ false) where
-    position-small : j .position < place .size / operationBytes
-    unfolding look
-    position-small =
-        let s : look table sleeper .position < 0 + length (operationsOf (sleeper .array)) =
-        stops-within (copiesOf table sleeper) (operationsOf (sleeper .array)) (copiesOf table sleeper) 0 (ap (λ (x : Judged). finishes (x .outcome)) (sym e) ∙ f) in
-        omega (arith, rw (← e, length-operations (sleeper .array) 0 (length (sleeper .array) / operationBytes), long) at s)
-
-    pub stop-within : operationBytes * j .position + operationBytes ≤ place .size
-    stop-within = omega (arith, position-small)
-
-    -- the first of them in the bytes
-    abbrev at : ℕ
-    at = from + operationBytes * j .position
-
-    pub bytes-within : at + 6 ≤ length arrays
-    bytes-within = omega (arith, stop-within, room)
-
-    byte-at : (x b : ℕ) → x ≡ operationBytes * j .position + b → b < operationBytes → getD (sleeper .array) x 0 ≡ getD arrays (at + b) 0
-    byte-at x b ex h =
-        let place′ : from + x ≡ at + b = omega arith in
-        byte-there x (omega (arith, stop-within)) ∙ ap (λ (y : ℕ). getD arrays y 0) place′
-
-    stop-is : stop table sleeper ≡ operationAt (sleeper .array) (0 + operationBytes * j .position)
-    unfolding stop
-    stop-is = rw (← e) (operation-there (sleeper .array) 0 (length (sleeper .array) / operationBytes) (j .position) (rw long position-small))
-
-    stop-number : stop table sleeper .number ≡ two (getD arrays at 0) (getD arrays (at + 1) 0)
-    stop-number =
-        let z : at + 0 ≡ at = omega arith in
-        ap (λ (o : Operation). o .number) stop-is
-        ∙ rw (byte-at (0 + operationBytes * j .position) 0 (omega arith) (omega arith), byte-at (0 + operationBytes * j .position + 1) 1 (omega arith) (omega arith), z)
-
-    stop-amount : stop table sleeper .amount ≡ signed16 (two (getD arrays (at + 2) 0) (getD arrays (at + 3) 0))
-    stop-amount =
-        ap (λ (o : Operation). o .amount) stop-is
-        ∙ rw (byte-at (0 + operationBytes * j .position + 2) 2 (omega arith) (omega arith), byte-at (0 + operationBytes * j .position + 3) 3 (omega arith) (omega arith))
-
-    module _ (slot n : ℕ) (here : place .slot ≡ slot) where
       -- at another semaphore, or at this one
-      pub waits-beside : (two (getD arrays at 0) (getD arrays (at + 1) 0) ≡ n → ⊥) → Waits table slot n sleeper 0 0
+      pub waits-beside : (operationAt (s .array) (operationBytes * at) .number ≡ n → ⊥) → noWaiters ≡ waitsOf t slot n s
       unfolding stopsAt mine
-      waits-beside x = waits-not table slot n sleeper (rw (eq-eqb _ _ here, ← e, f, stop-number, ne-eqb _ _ x))
+      waits-beside x = waits-not (rw (eq-eqb _ _ here, ← eo, f, stop-is, ne-eqb _ _ x))
 
-      pub waits-here : (b : Bool) → two (getD arrays at 0) (getD arrays (at + 1) 0) ≡ n → isNegative (signed16 (two (getD arrays (at + 2) 0) (getD arrays (at + 3) 0))) ≡ b
-          → Waits table slot n sleeper (cond b (bitOf (place .process)) 0) (cond b 0 (bitOf (place .process)))
+      pub waits-here : (b : Bool) → operationAt (s .array) (operationBytes * at) .number ≡ n → isNegative (operationAt (s .array) (operationBytes * at) .amount) ≡ b
+          → record { increase = cond b (bitOf (s .process)) 0; zero = cond b 0 (bitOf (s .process)) } ≡ waitsOf t slot n s
       unfolding stopsAt mine
-      waits-here b x g = waits-for table slot n sleeper b (rw (eq-eqb _ _ here, ← e, f, stop-number, eq-eqb _ _ x)) (rw stop-amount g)
+      waits-here b x g = waits-for b (rw (eq-eqb _ _ here, ← eo, f, stop-is, eq-eqb _ _ x)) (rw stop-is g)
 
-  -- at another set, or nowhere
-  pub waits-elsewhere : (slot n : ℕ) → (place .slot ≡ slot → ⊥) → Waits table slot n sleeper 0 0
-  unfolding stopsAt mine
-  waits-elsewhere slot n x = waits-not table slot n sleeper (rw (ne-eqb _ _ x))
-
-  pub waits-nowhere : (slot n : ℕ) {j : Judged} → place .slot ≡ slot → j ≡ lookIn v a arrays place → finishes (j .outcome) ≡ true → Waits table slot n sleeper 0 0
-  unfolding stopsAt mine
-  waits-nowhere slot n here e f = waits-not table slot n sleeper (rw (eq-eqb _ _ here, ← e, f))
+  -- nowhere that it names
+  pub waits-unnamed : s .slot ≡ slot → hasBit (named s) (2 ^ n) ≡ false → noWaiters ≡ waitsOf t slot n s
+  waits-unnamed here h = go (finishes (look t s .outcome)) refl
+    where
+      go : (b : Bool) → finishes (look t s .outcome) ≡ b → noWaiters ≡ waitsOf t slot n s
+      go true f = waits-nowhere refl here f
+      go false f =
+          let small = position-small refl here refl f in
+          waits-beside refl here refl f
+          (λ x. all-at (operationsOf (s .array)) (look t s .position) noOperation (unnamed-other s n h) (omega (arith, length-operations (s .array) 0 (length (s .array) / operationBytes), small))
+          (ap (λ (o : Operation). o .number) (operation-there (s .array) 0 (length (s .array) / operationBytes) (look t s .position) small ∙ ap (operationAt (s .array)) (omega arith)) ∙ x))
 
 -- ---- the walk over the queue
 
-module _ (line : Line) (arrays : List ℕ) (seated : Seated line arrays) (i : ℕ) where
-  abbrev queue : List Sleeper
-  queue = queueOf line arrays
+module _ (q : List Sleeper) (i : ℕ) (test : Sleeper → Bool) (m : ℕ) where
+  mask-more : i < length q → maskOf test m (drop i q) ≡ maskOf test (bitOr m (bitIf test (getD q i noSleeper))) (drop (i + 1) q)
+  unfolding maskOf
+  mask-more h = rw (drop-at q i noSleeper h, maskOf) (ap (λ (x : ℕ). maskOf test x (drop (i + 1) q)) (go (test (getD q i noSleeper))))
+    where
+      go : (b : Bool) → cond b (bitOr m (bitOf (getD q i noSleeper .process))) m ≡ bitOr m (cond b (bitOf (getD q i noSleeper .process)) 0)
+      go true = refl
+      go false = sym (or-zero-r m)
 
-  size : length queue ≡ line .asleep
-  unfolding queueOf
-  size = length-map (take (line .asleep) (line .places)) (sleeperAt arrays) ∙ length-take-le (line .asleep) (line .places) (seated .long)
-
-  -- the sleepers from i on: the one at place i, and those behind it
-  next : i < line .asleep → drop i queue ≡ sleeperAt arrays (getD (line .places) i noPlace) ∷ drop (i + 1) queue
-  unfolding queueOf
-  next h =
-      drop-at queue i (sleeperAt arrays noPlace) (omega (arith, size))
-      ∙ ap (λ (s : Sleeper). s ∷ drop (i + 1) queue)
-      (List·getD-map (sleeperAt arrays) (take (line .asleep) (line .places)) i noPlace ∙ ap (sleeperAt arrays) (getD-take (line .asleep) (line .places) i noPlace h))
-
-  module _ (test : Sleeper → Bool) (m : ℕ) where
-    mask-more : i < line .asleep → maskOf test m (drop i queue) ≡ maskOf test (bitOr m (bitIf test (sleeperAt arrays (getD (line .places) i noPlace)))) (drop (i + 1) queue)
-    unfolding maskOf
-    mask-more h = rw (next h, maskOf) (ap (λ (x : ℕ). maskOf test x (drop (i + 1) queue)) (go (test (sleeperAt arrays (getD (line .places) i noPlace)))))
-      where
-        go : (b : Bool) → cond b (bitOr m (bitOf (getD (line .places) i noPlace .process))) m ≡ bitOr m (cond b (bitOf (getD (line .places) i noPlace .process)) 0)
-        go true = refl
-        go false = sym (or-zero-r m)
-
-    mask-over : line .asleep ≤ i → maskOf test m (drop i queue) ≡ m
-    unfolding maskOf
-    mask-over h = rw (drop-of-length-le queue {i = i} (omega (arith, size)))
+  mask-over : length q ≤ i → maskOf test m (drop i q) ≡ m
+  unfolding maskOf
+  mask-over h = rw (drop-of-length-le q {i = i} h)
 
 -- the masks so far, with those of the sleepers to come, are those of the whole queue
-pub record Walked (t : Table) (slot n : ℕ) (line : Line) (arrays : List ℕ) (increase zero i : ℕ) : Type 0 where
-  pub within : i ≤ line .asleep
-  pub increases : maskOf (forIncrease t slot n) increase (drop i (queueOf line arrays)) ≡ maskOf (forIncrease t slot n) 0 (queueOf line arrays)
-  pub zeros : maskOf (forZero t slot n) zero (drop i (queueOf line arrays)) ≡ maskOf (forZero t slot n) 0 (queueOf line arrays)
+pub record Walked (t : Table) (slot n : ℕ) (q : List Sleeper) (increase zero i : ℕ) : Type 0 where
+  pub within : i ≤ length q
+  pub increases : maskOf (forIncrease t slot n) increase (drop i q) ≡ maskOf (forIncrease t slot n) 0 q
+  pub zeros : maskOf (forZero t slot n) zero (drop i q) ≡ maskOf (forZero t slot n) 0 q
 
-module _ {t : Table} {slot n : ℕ} {line : Line} {arrays : List ℕ} where
-  pub walked-none : Walked t slot n line arrays 0 0 0
+module _ {t : Table} {slot n : ℕ} {q : List Sleeper} where
+  pub walked-none : Walked t slot n q 0 0 0
   walked-none = record { within = omega arith; increases = refl; zeros = refl }
 
-  module _ (seated : Seated line arrays) {increase zero i : ℕ} (w : Walked t slot n line arrays increase zero i) where
-    pub walked-more : {x y : ℕ} → i < line .asleep → Waits t slot n (sleeperAt arrays (getD (line .places) i noPlace)) x y → Walked t slot n line arrays (bitOr increase x) (bitOr zero y) (i + 1)
-    walked-more h k =
+  module _ {increase zero i : ℕ} (w : Walked t slot n q increase zero i) where
+    pub walked-more : {o : Waiters} → i < length q → o ≡ waitsOf t slot n (getD q i noSleeper) → Walked t slot n q (bitOr increase (o .increase)) (bitOr zero (o .zero)) (i + 1)
+    walked-more {o} h e =
         record {
           within = omega arith;
-          increases = rw (k .increases) (sym (mask-more line arrays seated i (forIncrease t slot n) increase h) ∙ w .increases);
-          zeros = rw (k .zeros) (sym (mask-more line arrays seated i (forZero t slot n) zero h) ∙ w .zeros);
+          increases = rw (ap (λ (x : Waiters). x .increase) e) (sym (mask-more q i (forIncrease t slot n) increase h) ∙ w .increases);
+          zeros = rw (ap (λ (x : Waiters). x .zero) e) (sym (mask-more q i (forZero t slot n) zero h) ∙ w .zeros);
         }
 
-    pub walked-all : line .asleep ≤ i → Waiting t slot n (queueOf line arrays) increase zero
+    pub walked-all : length q ≤ i → record { increase = increase; zero = zero } ≡ waitersOf t slot n q
     walked-all h =
-        record {
-          increases = sym (mask-over line arrays seated i (forIncrease t slot n) increase h) ∙ w .increases;
-          zeros = sym (mask-over line arrays seated i (forZero t slot n) zero h) ∙ w .zeros;
-        }
+        ap₂ (λ (a b : ℕ). record { increase = a; zero = b }) (sym (mask-over q i (forIncrease t slot n) increase h) ∙ w .increases) (sym (mask-over q i (forZero t slot n) zero h) ∙ w .zeros)
 
 -- ---- query
 
-module _ (h : Host) (k : Held h) where
-  ready : Ready (parts (h .values) (h .lasts) (h .adjustments) (h .arrays) (record { line = h .line; looks = 0; wakings = wakingsOf [] }))
-  ready =
-      let v = held-invariant h k in
-      ready-with (h .sets) (stateOf h .table) (stateOf h .queue) (record { line = h .line; looks = 0; wakings = wakingsOf [] }) (held-counts h k) (v .good) (v .fits) (v .distinct) (held-lined h k .holds) refl
+refuses : (code : ℕ) (r : Result) (s : _) → (code ≡ 0 → ⊥) → queriedOf (answer (pos code)) ≡ queriedOf (checked code s r .answer)
+refuses zero r s n = absurd (n refl)
+refuses (suc code) r s n = refl
 
-  pub held-seated : Seated (h .line) (h .arrays)
-  held-seated =
-      let places : length (h .line .places) ≡ processes = rw (held-line h k) (length-places (stateOf h .queue) (held-lined h k .fits .few)) in
-      record { few = held-few h k; long = omega (arith, held-few h k); bytes = held-bytes h k; placed = λ i l. the-placed _ ready i l }
+module _ (x : Host) (k : Held x) (i : ℤ) (n : ℕ) where
+  pub query-refused : {code : ℕ} → code ≡ checkNumber (stateIn x) i n → (code ≡ 0 → ⊥) → queriedOf (answer (pos code)) ≡ queriedOf (doQuery (stateIn x) i n .answer)
+  unfolding doQuery
+  query-refused {code} e z = rw (← e) (refuses code _ (stateIn x) z)
 
-  module _ (i : ℤ) (n : ℕ) {code : ℕ} (e : code ≡ checkNumber (stateOf h) i n) where
-    pub query-refused : (code ≡ 0 → ⊥) → queriedOf (answer (pos code)) ≡ queriedOf (doQuery (stateOf h) i n .answer)
-    unfolding doQuery
-    query-refused x = rw (← e) (ap (λ (r : Result). queriedOf (r .answer)) (refuses code (stateOf h) _ x))
+  -- the semaphore is one of the table's
+  pub query-small : checkNumber (stateIn x) i n ≡ 0 → {slot : ℕ} → slot ≡ slotOf i → (slot < slots) × (n < semaphores)
+  query-small z e =
+      let p = number-passes (stateIn x) i n z in
+      (omega (arith, e, p .slot), omega (arith, p .number, held-counts x k (slotOf i)))
 
-    -- "the count is the number of ones in it"
-    pub queried : {slot increase zero : ℕ} → code ≡ 0 → slot ≡ slotOf i → Waiting (lookTable (h .values) (h .adjustments)) slot n (stateOf h .queue) increase zero
-        → record {
-          code = pos 0;
-          value = getD (h .values) (row slot + n) 0;
-          last = getD (h .lasts) (row slot + n) 0;
-          increase = ones increase;
-          zero = ones zero;
-          «increase_mask» = increase;
-          «zero_mask» = zero;
-        }
-        ≡ queriedOf (doQuery (stateOf h) i n .answer)
-    unfolding doQuery seenAt forIncrease forZero stopsAt stop look valuesOf adjustmentsOf
-    queried z es w =
-        let v = held-invariant h k in
-        let a = ones-mask (forIncrease (stateOf h .table) (slotOf i) n) (stateOf h .queue) (v .fits) (v .distinct) in
-        let b = ones-mask (forZero (stateOf h .table) (slotOf i) n) (stateOf h .queue) (v .fits) (v .distinct) in
-        rw (← e, z, w .increases, w .zeros, es, a, b)
+  -- "the count is the number of ones in it"
+  pub queried : {slot value last : ℕ} {w : Waiters} → checkNumber (stateIn x) i n ≡ 0 → slot ≡ slotOf i → w ≡ waitersOf (tableIn x) slot n (queueIn (x .row))
+      → value ≡ getD (x .row values) (row slot + n) 0 → last ≡ getD (x .row lasts) (row slot + n) 0
+      → record {
+        code = pos 0;
+        value = value;
+        last = last;
+        increase = ones (w .increase);
+        zero = ones (w .zero);
+        «increase_mask» = w .increase;
+        «zero_mask» = w .zero;
+      }
+      ≡ queriedOf (doQuery (stateIn x) i n .answer)
+  unfolding doQuery seenAt
+  queried {slot} {value} {last} {w} z es ew ev el =
+      let v = held-invariant x k in
+      let a = ones-mask (forIncrease (tableIn x) (slotOf i) n) (queueIn (x .row)) (v .fits) (v .distinct) in
+      let b = ones-mask (forZero (tableIn x) (slotOf i) n) (queueIn (x .row)) (v .fits) (v .distinct) in
+      rw (ew, ev, el, z, es, a, b)

@@ -1,30 +1,31 @@
 -- Set value, once no check applies.
 use Prim.Native.Nat.{ℕ, _<_, _^_}
-use native.Mathlib.Omega.{arith}
-use mathlib.Core.Path.{_≡_, _∙_, ap}
 use native.Mathlib.Nat.{zero-lt-suc}
-use borrow.Author.Tests.{not-false}
-use mathlib.Core.List.{List}
+use native.Mathlib.Omega.{arith}
+use mathlib.Core.Path.{_≡_, refl, sym, ap, ap₂, _∙_}
 use mathlib.Core.Bool.{not}
+use mathlib.Core.List.{List, []}
 use lib.Dec.{eqb}
 use lib.IntN.{ℤ, pos, natAbs}
+use borrow.Author.Tests.{not-false}
 use Rattle.model.specs.declared.Engine.{Engine}
-use Rattle.model.specs.declared.Host.{Host}
+use Rattle.model.specs.declared.Told.{Told}
+use Rattle.model.specs.declared.Waking.{Waking}
 use Rattle.model.specs.Limits.{semaphores}
-use Rattle.model.specs.State.{State}
+use Rattle.model.specs.State.{State, Table}
 use Rattle.model.specs.Checks.{check, inRange, slotOf, checkSetValue, checkNumber}
 use Rattle.model.specs.Waking.{waker}
 use Rattle.model.specs.Events.{assigned, doSetValue}
-use Rattle.model.specs.Layout.{Held, stateOf, stepOf, tableOf}
-use Rattle.model.proofs.CheckLaws.{passes, Assignable, setValue-passes}
 use Rattle.model.specs.Invariant.{Good}
+use Rattle.model.proofs.CheckLaws.{passes, Assignable, setValue-passes}
 use Rattle.model.proofs.TableLaws.{assigned-good}
+use Rattle.host.specs.Holding.{Host, hostWith, queueIn, tableIn, stateIn, Held}
 use Rattle.judging.specs.Value.{valueOf}
-use Rattle.service.specs.declared.Woken.{Woken}
-use Rattle.service.specs.Parts.{Ready, parts, left, treated}
-use Rattle.service.specs.Told.{stepWith, unwokenAt, telling}
-use Rattle.service.proofs.EventLaws.{held-invariant, held-lined, held-counts, goes-on}
-use Rattle.service.proofs.ToldLaws.{told-woken, poised-ready, poised-treated}
+use Rattle.wakings.specs.Wakings.{listOf}
+use Rattle.service_table.specs.Written.{tabled}
+use Rattle.service_waking.specs.Lent.{Lent, Left, unwoken, Ready, treated}
+use Rattle.service.specs.After.{telling, afterOf}
+use Rattle.service.proofs.EventLaws.{held-invariant, held-counts, tabled-with, poised-lent, poised-ready, after-treated, goes-on}
 
 -- a value that passed the checks is what the semaphore will hold
 pub value-kept : (s : State) (i : ℤ) (n : ℕ) (v : ℤ) → checkSetValue s i n v ≡ 0 → valueOf v ≡ natAbs v
@@ -34,25 +35,32 @@ value-kept s i n v z =
     let b = passes (not (inRange v)) 34 0 (zero-lt-suc 33) (a .1) in
     rw (not-false (inRange v) (b .0))
 
-module _ (h : Host) (k : Held h) (i : ℤ) (n : ℕ) (v : ℤ) (z : checkSetValue (stateOf h) i n v ≡ 0) where
-  pub set-passed : Assignable (stateOf h) i n v
-  set-passed = setValue-passes (stateOf h) i n v z
+module _ (x : Host) (k : Held x) (i : ℤ) (n : ℕ) (v : ℤ) (z : checkSetValue (stateIn x) i n v ≡ 0) where
+  pub set-passed : Assignable (stateIn x) i n v
+  set-passed = setValue-passes (stateIn x) i n v z
 
   pub set-number : n < semaphores
-  set-number = omega (arith, set-passed .numbered .number, held-counts h k (slotOf i))
+  set-number = omega (arith, set-passed .numbered .number, held-counts x k (slotOf i))
 
-  -- the parts after the value was assigned
-  module _ {values : List ℕ} {adjustments : List ℤ} (et : tableOf values (h .lasts) adjustments ≡ assigned (tableOf (h .values) (h .lasts) (h .adjustments)) (slotOf i) n (natAbs v)) where
-    good : Good (assigned (tableOf (h .values) (h .lasts) (h .adjustments)) (slotOf i) n (natAbs v))
-    good = assigned-good _ (slotOf i) n (natAbs v) (held-invariant h k .good) (set-passed .value)
+  -- the table that it leaves
+  abbrev pub setTable : Table
+  setTable = assigned (tableIn x) (slotOf i) n (natAbs v)
 
-    pub set-ready : Ready (parts values (h .lasts) adjustments (h .arrays) (unwokenAt (h .line)))
-    set-ready = poised-ready h k _ (stateOf h .queue) good (held-invariant h k .fits) (held-invariant h k .distinct) et (held-lined h k .holds)
+  good : Good (assigned (tableIn x) (slotOf i) n (natAbs v))
+  good = assigned-good (tableIn x) (slotOf i) n (natAbs v) (held-invariant x k .good) (set-passed .value)
 
-    pub set-told : (engine : Engine) (code : ℤ) (w : Woken) {values′ lasts′ arrays′ : List ℕ} {adjustments′ : List ℤ} {slot touched : ℕ} → slot ≡ slotOf i → touched ≡ 2 ^ n → code ≡ pos 0
-        → left values′ lasts′ adjustments′ arrays′ w ≡ treated engine slot touched (parts values (h .lasts) adjustments (h .arrays) (unwokenAt (h .line))) 0
-        → stepWith values′ lasts′ adjustments′ arrays′ (telling (h .sets) code w) ≡ stepOf (doSetValue (waker engine) (stateOf h) i n v)
-    unfolding doSetValue
-    set-told engine code w es em c q =
-        told-woken (stateOf h) _ code w c (q ∙ rw (es, em) (poised-treated h k _ (stateOf h .queue) good (held-invariant h k .fits) (held-invariant h k .distinct) et (held-lined h k .holds) engine (slotOf i) (2 ^ n) 0))
-        ∙ ap stepOf (goes-on (stateOf h) _ z)
+  pub set-lent : {y : Host} {l : List Waking} → y ≡ tabled x (assigned (tableIn x) (slotOf i) n (natAbs v)) → l ≡ listOf []
+      → record { host = y; wakings = l; woken = 0 } ≡ unwoken x (assigned (tableIn x) (slotOf i) n (natAbs v)) (queueIn (x .row))
+  set-lent ey el = poised-lent x k (assigned (tableIn x) (slotOf i) n (natAbs v)) ey el
+
+  pub set-ready : Ready (unwoken x (assigned (tableIn x) (slotOf i) n (natAbs v)) (queueIn (x .row)))
+  set-ready = poised-ready x k _ (queueIn (x .row)) good (held-invariant x k .fits) (held-invariant x k .distinct)
+
+  pub set-after : (engine : Engine) {slot touched : ℕ} {y : Left} {told : Told} → slot ≡ slotOf i → touched ≡ 2 ^ n
+      → y ≡ treated engine slot touched (unwoken x (assigned (tableIn x) (slotOf i) n (natAbs v)) (queueIn (x .row))) 0 → told ≡ telling (pos 0) 0 (y .looks) (y .lent .woken)
+      → record { host = y .lent .host; wakings = y .lent .wakings; told = told } ≡ afterOf (doSetValue (waker engine) (stateIn x) i n v)
+  unfolding doSetValue
+  set-after engine es em ey et =
+      after-treated x k _ (queueIn (x .row)) good (held-invariant x k .fits) (held-invariant x k .distinct) engine (slotOf i) (2 ^ n)
+      (ey ∙ ap₂ (λ (a b : ℕ). treated engine a b (unwoken x (assigned (tableIn x) (slotOf i) n (natAbs v)) (queueIn (x .row))) 0) es em) et
+      ∙ ap afterOf (goes-on (stateIn x) _ z)

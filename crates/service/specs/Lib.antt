@@ -1,6 +1,3 @@
--- The definitions that the contracts of the crate's own functions cite.
-pub mod Table
-pub mod Line
-pub mod Parts
-pub mod Told
-pub mod Query
+-- What an event leaves and answers.
+pub mod After
+pub mod Waiting

@@ -1,12 +1,10 @@
-// The seven events, each in its own file.
+// The seven events, each in its own file, and what they tell.
 ghost use mathlib.Core.Path.{_≡_};
-ghost use Rattle.service.specs.Told.{stepWith};
-use crate::Told;
-use model::ALL_ADJUSTMENTS;
-use model::ALL_BYTES;
-use model::ALL_SEMAPHORES;
-use model::Host;
-use model::Step;
+ghost use lib.IntN.{pos};
+ghost use Rattle.service.specs.After.{telling};
+use judging::answer;
+use model::Told;
+use service_waking::Tally;
 
 pub mod create;
 pub mod exit;
@@ -16,32 +14,33 @@ pub mod remove;
 pub mod set_value;
 pub mod signal;
 
-// The parts after an event, and what it tells, put together.
-pub fn step(
-    values: [u16; ALL_SEMAPHORES],
-    lasts: [u8; ALL_SEMAPHORES],
-    adjustments: [i16; ALL_ADJUSTMENTS],
-    arrays: [u8; ALL_BYTES],
-    told: Told,
-) -> Step
-    ensures { λ r. ⌜ r ≡ stepWith values lasts adjustments arrays told ⌝ }
+// What an event tells that wakes nobody.
+fn quiet(code: u8, value: u32) -> Told
+    ensures { λ r. ⌜ r ≡ telling (pos code) value 0 0 ⌝ }
 {
-    let sets = told.sets;
-    let woken = told.woken;
-    let line = woken.line;
-    let wakings = woken.wakings;
-    Step {
-        host: Host {
-            sets: sets,
-            values: values,
-            lasts: lasts,
-            adjustments: adjustments,
-            line: line,
-            arrays: arrays,
-        },
-        code: told.code,
-        value: told.value,
-        looks: woken.looks,
-        wakings: wakings,
+    Told {
+        code: answer(code),
+        value: value,
+        looks: 0,
+        woken: 0,
     }
+}
+
+// What an event tells that is done, behind a waking.
+fn told(tally: Tally) -> Told
+    ensures { λ r. ⌜ r ≡ telling (pos 0) 0 (tally .looks) (tally .woken) ⌝ }
+{
+    Told {
+        code: 0,
+        value: 0,
+        looks: tally.looks,
+        woken: tally.woken,
+    }
+}
+
+// Nobody was looked at or woken yet.
+fn nobody() -> Tally
+    ensures { λ r. ⌜ (r .looks ≡ 0) × (r .woken ≡ 0) ⌝ }
+{
+    Tally { looks: 0, woken: 0 }
 }

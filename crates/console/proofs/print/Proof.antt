@@ -1,32 +1,42 @@
--- `console::print` meets its contract. The loop's invariant: the progress is behind some of the events, and the buffer is as
--- long as it was.
-use mathlib.Core.Path.{_≡_, sym, ap, subst, _∙_}
+-- `console::print` meets its contract. The loop's invariant: host and progress are behind some of the events, and the buffer is
+-- as long as it was.
+use mathlib.Core.Path.{_≡_, sym, ap, ap₂, subst, _∙_}
 use mathlib.Core.List.{List}
-use Prim.Native.Nat.{ℕ}
 use native.Mathlib.Omega.{arith}
+use lib.IntN.{ℤ}
 use lib.ListN.{length}
 use lib.Seq.{length-take-le}
 use borrow.Author.Needs.{needs}
-use Rattle.replaying.specs.declared.Wrote.{Wrote}
+use Rattle.model.specs.State.{freshState}
+use Rattle.host.specs.Parts.{Row}
+use Rattle.host.specs.Holding.{Host, hostOf, hostIn}
+use Rattle.replaying.specs.declared.Progress.{Progress}
+use Rattle.replaying.specs.Replay.{Stage, Wrote, stageIn}
 use Rattle.replaying.proofs.Whole.{Through, through-start, piece-moves, through-piece, through-all}
 use Rattle.console.proofs.print.Statement.{statement}
 use Rattle.console.proofs.print.Tie as tie
 
 abbrev Inv-loop : tie.InvT-loop
-Inv-loop engine file out₀ progress₀ out progress = Through engine file progress × (65536 ≡ length out)
+Inv-loop engine file host₀ adjustments₀ out₀ progress₀ host adjustments out progress =
+    Through engine file (stageIn (hostIn host adjustments) progress) × (65536 ≡ length out)
 
 abbrev μ-loop : tie.MeasureT-loop
-μ-loop engine file out₀ progress₀ out progress = progress .left
+μ-loop engine file host₀ adjustments₀ out₀ progress₀ host adjustments out progress = progress .left
 
--- the progress that a call answers, by its equation
-moved : {r : Wrote} {out : List ℕ} {w : Wrote × List ℕ} → (r, out) ≡ w → r .progress ≡ w .0 .progress
-moved e = ap (λ (x : Wrote × List ℕ). x .0 .progress) e
+-- how far a call has come, by its equation
+moved : {w v : Wrote} → w ≡ v → w .stage ≡ v .stage
+moved e = ap (λ (x : Wrote). x .stage) e
 
-abbrev In : Type 0
-In = tie.Then1 Inv-loop μ-loop
+-- ---- before the loop
 
-through : (c : In) → let a = c .before .before in Through (a .before .before .before .before .before .before .before .before .before .args .engine) (a .before .before .before .before .before .before .before .before .before .args .file .now) (a .loop .progress)
-through c = c .before .before .loop .inv .0
+is-fresh : (c : tie.After-no-adjustments Inv-loop μ-loop) → hostIn (c .before .fresh .result) (c .no-adjustments .result) ≡ hostOf freshState
+is-fresh c = ap₂ (λ (r : Row) (a : List ℤ). record { row = r; adjustments = a }) (c .before .fresh .ensures) (c .no-adjustments .ensures)
+
+fresh-requires : tie.Need-fresh-requires Inv-loop μ-loop
+fresh-requires c κs = search needs
+
+no-adjustments-requires : tie.Need-no-adjustments-requires Inv-loop μ-loop
+no-adjustments-requires c κs = search needs
 
 large-buffer-requires : tie.Need-large-buffer-requires Inv-loop μ-loop
 large-buffer-requires c κs = search needs
@@ -48,40 +58,52 @@ write-all-requires c κs = search needs
 
 loop-holds : tie.Need-loop-holds Inv-loop μ-loop
 loop-holds c =
-    let b = c .before .before .before .before in
-    (subst (Through _ _) (sym (moved (b .start .ensures .0))) (through-start _ _ _), b .before .before .large-buffer .ensures ∙ sym (b .start .kept .1 .0))
+    let s = c .before .before .before in
+    let b = s .before .before in
+    let e = ap (λ (x : Host). stageIn x (s .start .result)) (is-fresh (b .before)) ∙ moved (s .start .ensures .0) in
+    (subst (Through _ _) (sym e) (through-start _ _ _), b .large-buffer .ensures ∙ sym (s .start .kept .1 .0))
+
+-- ---- a turn
 
 slice-aggregate-piece : tie.Need-slice-aggregate-piece Inv-loop μ-loop
-slice-aggregate-piece c = c .before .before .before .loop .inv .1
+slice-aggregate-piece c = c .before .before .before .before .before .loop .inv .1
 
 piece-requires : tie.Need-piece-requires Inv-loop μ-loop
-piece-requires c κs = through (c .before) .came
+piece-requires c κs = c .before .before .before .before .before .loop .inv .0 .came
 
 array-share-prefix-out-2 : tie.Need-array-share-prefix-out-2 Inv-loop μ-loop
-array-share-prefix-out-2 c = c .before .before .piece .ensures .1
+array-share-prefix-out-2 c = c .before .piece .ensures .1
 
 slice-aggregate-write-all-2 : tie.Need-slice-aggregate-write-all-2 Inv-loop μ-loop
-slice-aggregate-write-all-2 c = sym (length-take-le _ _ (c .before .before .before .piece .ensures .1))
+slice-aggregate-write-all-2 c = sym (length-take-le _ _ (c .before .before .piece .ensures .1))
 
 write-all-requires-2 : tie.Need-write-all-requires-2 Inv-loop μ-loop
 write-all-requires-2 c κs = search needs
 
 loop-less : tie.Need-loop-less Inv-loop μ-loop
 loop-less c =
-    let b = c .before .before .before .before in
-    let i = b .before .before in
+    let p = c .before .before .before in
+    let i = p .before .before .before .before in
     let l = i .before .before .loop in
     let m = piece-moves _ _ (l .out) (l .inv .0 .came) (i .if1 .taken) (omega (arith, l .inv .1)) in
-    rw (moved (b .piece .ensures .0)) m
+    rw (ap (λ (s : Stage). s .left) (moved (p .piece .ensures .0))) m
 
 loop-again : tie.Need-loop-again Inv-loop μ-loop
 loop-again c =
-    let b = c .before .before .before .before in
-    let l = b .before .before .before .before .loop in
-    (subst (Through _ _) (sym (moved (b .piece .ensures .0))) (through-piece _ _ (l .out) (l .inv .0)), l .inv .1 ∙ sym (b .piece .kept .1 .1 .1 .0))
+    let p = c .before .before .before in
+    let l = p .before .before .before .before .before .before .loop in (
+      subst (Through _ _) (sym (moved (p .piece .ensures .0))) (through-piece _ _ (l .out) (l .inv .0)),
+      l .inv .1 ∙ sym (p .piece .kept .1 .1 .1 .1 .1 .0),
+    )
+
+-- ---- behind the loop
+
+-- a progress whose host is that of the stage it makes
+alone : {x : Host} (p : Progress) {s : Stage} → stageIn x p ≡ s → stageIn (s .host) p ≡ s
+alone p e = ap (λ (s : Stage). stageIn (s .host) p) (sym e) ∙ e
 
 returns : tie.Need-returns Inv-loop μ-loop
-returns c = through-all _ _ (c .before .before .loop .inv .0) (c .if1 .left)
+returns c = alone (c .before .before .loop .progress) (through-all _ _ (c .before .before .loop .inv .0) (c .if1 .left))
 
 pub print-spec : {M : Type 1} → statement M
 print-spec =
@@ -89,6 +111,8 @@ print-spec =
     (tie.spec
     Inv-loop
     μ-loop
+    fresh-requires
+    no-adjustments-requires
     large-buffer-requires
     slice-aggregate-start
     start-requires

@@ -1,66 +1,75 @@
 -- `example::main` meets its contract: what each check asks follows from what the events promise, by computing their definitions.
-use mathlib.Core.Path.{_≡_, refl, _∙_, ap}
-use mathlib.Core.List.{[], _∷_}
-use lib.IntN.{pos}
-use borrow.Author.Tests.{eq-eqb}
-use Rattle.model.specs.declared.Engine.the-variants.{Quick}
-use Rattle.model.specs.declared.Host.{Host}
-use Rattle.model.specs.declared.Step.{Step}
-use Rattle.model.specs.State.{State, freshState}
-use Rattle.model.specs.Waking.{waker}
-use Rattle.model.specs.Events.{Result, event, create, operate, doCreate, doOperate}
-use Rattle.model.specs.Runs.{Reached, start, came}
-use Rattle.model.specs.Layout.{stateOf, stepOf, wakingsOf}
-use Rattle.example.proofs.Events.{created, slept, given, after-create, after-sleep, slept-looks, given-looks, given-wakings}
-use Rattle.model.proofs.Held.{state-back, held-of, held-fresh}
+use mathlib.Core.Path.{_≡_, ap, ap₂, _∙_}
+use mathlib.Core.List.{List}
+use lib.IntN.{ℤ}
 use borrow.Author.Needs.{needs}
+use borrow.Author.Tests.{eq-eqb}
+use Rattle.model.specs.State.{freshState}
+use Rattle.model.specs.Runs.{start}
+use Rattle.host.specs.Parts.{Row}
+use Rattle.host.specs.Holding.{hostOf, hostIn}
+use Rattle.service.specs.After.{After, afterIn, afterOf}
+use Rattle.example.proofs.Events.{created, slept, given, after-create, after-sleep, held, is-created, is-slept, is-given, slept-looks, given-looks, given-wakings}
 use Rattle.example.proofs.main.Statement.{statement}
 use Rattle.example.proofs.main.Tie as tie
 
--- what the calls return is what they give
-is-created : (c : tie.After-create) → c .create .result ≡ stepOf created
-unfolding event
-is-created c = c .create .ensures ∙ ap (λ (h : Host). stepOf (doCreate (stateOf h) 1 255 255)) (c .before .fresh .ensures) ∙ ap (λ (s : State). stepOf (doCreate s 1 255 255)) (state-back start)
+-- ---- what each event leaves
 
-is-slept : (c : tie.After-operate) → c .operate .result ≡ stepOf slept
-unfolding event
-is-slept c =
-    c .operate .ensures ∙ ap (λ (x : Step). stepOf (doOperate (waker Quick) (stateOf (x .host)) 1 (pos 0) (0 ∷ 0 ∷ 255 ∷ 255 ∷ 0 ∷ 0 ∷ []))) (is-created (c .before .before .before))
-    ∙ ap (λ (s : State). stepOf (doOperate (waker Quick) s 1 (pos 0) (0 ∷ 0 ∷ 255 ∷ 255 ∷ 0 ∷ 0 ∷ []))) (state-back after-create)
+is-fresh : (c : tie.After-no-adjustments) → hostIn (c .before .fresh .result) (c .no-adjustments .result) ≡ hostOf freshState
+is-fresh c = ap₂ (λ (r : Row) (a : List ℤ). record { row = r; adjustments = a }) (c .before .fresh .ensures) (c .no-adjustments .ensures)
 
-is-given : (c : tie.After-operate2) → c .operate2 .result ≡ stepOf given
-unfolding event
-is-given c =
-    c .operate2 .ensures ∙ ap (λ (x : Step). stepOf (doOperate (waker Quick) (stateOf (x .host)) 2 (pos 0) (0 ∷ 0 ∷ 1 ∷ 0 ∷ 0 ∷ 0 ∷ []))) (is-slept (c .before .before .before .before .before))
-    ∙ ap (λ (s : State). stepOf (doOperate (waker Quick) s 2 (pos 0) (0 ∷ 0 ∷ 1 ∷ 0 ∷ 0 ∷ 0 ∷ []))) (state-back after-sleep)
+host-of : {a b : After} → a ≡ b → a .host ≡ b .host
+host-of e = ap (λ (x : After). x .host) e
+
+looks-of : {a b : After} → a ≡ b → a .told .looks ≡ b .told .looks
+looks-of e = ap (λ (x : After). x .told .looks) e
+
+woken-of : {a b : After} → a ≡ b → a .told .woken ≡ b .told .woken
+woken-of e = ap (λ (x : After). x .told .woken) e
+
+-- ---- the needs
 
 fresh-requires : tie.Need-fresh-requires
 fresh-requires c κs = search needs
 
+no-adjustments-requires : tie.Need-no-adjustments-requires
+no-adjustments-requires c κs = search needs
+
 create-requires : tie.Need-create-requires
-create-requires c κs = rw (c .fresh .ensures) held-fresh
+create-requires c κs = held start (is-fresh (c .before .before .before))
 
 slice-aggregate-operate : tie.Need-slice-aggregate-operate
 slice-aggregate-operate c = search needs
 
+-- behind the create
+behind-create : (c : tie.After-create) → let a = c .create in afterIn (a .last .0) (a .last .1 .0) (a .last .1 .1 .0) (a .result) ≡ afterOf created
+behind-create c = is-created (is-fresh (c .before .before .before .before)) (c .create .ensures)
+
 operate-requires : tie.Need-operate-requires
-operate-requires c κs = rw (is-created (c .before .before)) (held-of after-create)
+operate-requires c κs = held after-create (host-of (behind-create (c .before .before .before .before)))
+
+-- behind the first operate
+behind-operate : (c : tie.After-operate) → let a = c .operate in afterIn (a .last .0) (a .last .1 .0) (a .last .1 .1 .0) (a .result) ≡ afterOf slept
+behind-operate c = is-slept (host-of (behind-create (c .before .before .before .before .before))) (c .operate .ensures)
 
 expect-requires : tie.Need-expect-requires
-expect-requires c κs = eq-eqb _ 0 (ap (λ (x : Step). x .looks) (is-slept (c .before .before)) ∙ slept-looks)
+expect-requires c κs = eq-eqb _ 0 (looks-of (behind-operate (c .before)) ∙ slept-looks)
 
 slice-aggregate-operate-2 : tie.Need-slice-aggregate-operate-2
 slice-aggregate-operate-2 c = search needs
 
 operate-requires-2 : tie.Need-operate-requires-2
-operate-requires-2 c κs = rw (is-slept (c .before .before .before .before)) (held-of after-sleep)
+operate-requires-2 c κs = held after-sleep (host-of (behind-operate (c .before .before .before .before .before .before)))
+
+-- behind the second
+behind-operate2 : (c : tie.After-operate2) → let a = c .operate2 in afterIn (a .last .0) (a .last .1 .0) (a .last .1 .1 .0) (a .result) ≡ afterOf given
+behind-operate2 c = is-given (host-of (behind-operate (c .before .before .before .before .before .before .before))) (c .operate2 .ensures)
 
 expect-requires-2 : tie.Need-expect-requires-2
-unfolding wakingsOf
-expect-requires-2 c κs = eq-eqb _ 1 (ap (λ (x : Step). x .wakings .count) (is-given (c .before .before)) ∙ given-wakings)
+expect-requires-2 c κs = eq-eqb _ 1 (woken-of (behind-operate2 (c .before)) ∙ given-wakings)
 
 expect-requires-3 : tie.Need-expect-requires-3
-expect-requires-3 c κs = eq-eqb _ 1 (ap (λ (x : Step). x .looks) (is-given (c .before .before .before .before)) ∙ given-looks)
+expect-requires-3 c κs = eq-eqb _ 1 (looks-of (behind-operate2 (c .before .before .before)) ∙ given-looks)
 
 print-decimal-requires : tie.Need-print-decimal-requires
 print-decimal-requires c κs = search needs
@@ -79,6 +88,7 @@ main-spec =
     tie.close
     (tie.spec
     fresh-requires
+    no-adjustments-requires
     create-requires
     slice-aggregate-operate
     operate-requires

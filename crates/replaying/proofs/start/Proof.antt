@@ -6,14 +6,13 @@ use mathlib.Core.List.{List}
 use native.Mathlib.Omega.{arith}
 use lib.ListN.{length}
 use borrow.Author.Needs.{needs}
-use Rattle.model.specs.declared.Host.{Host}
 use Rattle.model.specs.State.{freshState}
-use Rattle.model.specs.Layout.{hostOf}
+use Rattle.host.specs.Holding.{hostOf}
 use Rattle.runfile.specs.Table.{tableEnd}
 use Rattle.runfile.proofs.Walk.{is-good}
 use Rattle.lines.proofs.Writing.{line-fits}
 use Rattle.replaying.specs.Replay.{wrote, begun}
-use Rattle.replaying.proofs.Turns.{progress}
+use Rattle.replaying.proofs.Turns.{stage}
 use Rattle.replaying.proofs.Starts.{bad-begun, good-begun}
 use Rattle.replaying.proofs.start.Statement.{statement}
 use Rattle.replaying.proofs.start.Tie as tie
@@ -34,12 +33,12 @@ few c =
     (λ v. omega (arith, v .6))
     (c .if1 .came)
 
-is : (c : tie.Joined1) {host : Host} → host ≡ hostOf freshState
-    → (wrote (progress host 0 (c .if1 .left) (tableEnd (c .if1 .left))) (c .if1 .written), c .if1 .out) ≡ begun (file-of (c .before)) (out-of (c .before))
-is c h =
+is : (c : tie.Joined1)
+    → wrote (stage (hostOf freshState) 0 (c .if1 .left) (tableEnd (c .if1 .left))) (c .if1 .written) (c .if1 .out) ≡ begun (file-of (c .before)) (out-of (c .before))
+is c =
     ⊎-elim
-    (λ v. rw (v .6, v .7, v .8) (good-begun (file-of (c .before)) (out-of (c .before)) h (sym (c .before .code .ensures) ∙ v .0 .taken) (v .1 .ensures) (v .3 .ensures .0)))
-    (λ v. rw (v .5, v .6, v .7) (bad-begun (file-of (c .before)) (out-of (c .before)) h (c .before .code .ensures) (v .0 .left) (v .2 .ensures .0)))
+    (λ v. rw (v .6, v .7, v .8) (good-begun (file-of (c .before)) (out-of (c .before)) (sym (c .before .code .ensures) ∙ v .0 .taken) (v .1 .ensures) (v .3 .ensures .0)))
+    (λ v. rw (v .5, v .6, v .7) (bad-begun (file-of (c .before)) (out-of (c .before)) (c .before .code .ensures) (v .0 .left) (v .2 .ensures .0)))
     (c .if1 .came)
 
 kept : (c : tie.Joined1) → length (c .if1 .out) ≡ length (out-of (c .before))
@@ -64,20 +63,17 @@ head-line-requires c κs = search needs
 bad-line-requires : tie.Need-bad-line-requires
 bad-line-requires c κs = search needs
 
-fresh-requires : tie.Need-fresh-requires
-fresh-requires c κs = search needs
+mul-t11 : tie.Need-mul-t11
+mul-t11 c = omega (arith, few (c .before))
 
-mul-t12 : tie.Need-mul-t12
-mul-t12 c = omega (arith, few (c .before .before))
-
-add-t13 : tie.Need-add-t13
-add-t13 c = omega (arith, few (c .before .before))
+add-t12 : tie.Need-add-t12
+add-t12 c = omega (arith, few (c .before))
 
 same-length : tie.Need-same-length
-same-length c = kept (c .before .before)
+same-length c = kept (c .before)
 
 returns : tie.Need-returns
-returns c = let j = c .before .before in (is j (c .before .fresh .ensures), omega (arith, kept j, fits j))
+returns c = let j = c .before in (is j, omega (arith, kept j, fits j))
 
 pub start-spec : {M : Type 1} → statement M
 start-spec =
@@ -87,8 +83,7 @@ start-spec =
     count-requires
     head-line-requires
     bad-line-requires
-    fresh-requires
-    mul-t12
-    add-t13
+    mul-t11
+    add-t12
     same-length
     returns)

@@ -1,81 +1,48 @@
 // Create: the lowest free slot becomes a set.
 ghost use mathlib.Core.Path.{_≡_};
 ghost use Rattle.model.specs.Events.{doCreate};
-ghost use Rattle.model.specs.Layout.{Held, stateOf, stepOf};
-ghost use Rattle.service.specs.Told.{hostWith, stepWith};
-use crate::Told;
-use crate::checks::check_create;
-use crate::checks::free_slot;
-use crate::events::step;
-use crate::quiet::unwoken;
-use crate::table::clear_slot;
-use judging::answer;
+ghost use Rattle.host.specs.Holding.{Held, hostIn, stateIn};
+ghost use Rattle.service.specs.After.{afterIn, afterOf};
+use crate::events::quiet;
+use host::HOST_BYTES;
+use host::put_set;
+use host::set_at;
 use model::ALL_ADJUSTMENTS;
-use model::ALL_SEMAPHORES;
-use model::Host;
-use model::Line;
 use model::SETS;
 use model::Set;
-use model::Step;
+use model::Told;
+use model::WAKING_BYTES;
+use service_checks::check_create;
+use service_checks::free_slot;
+use service_table::clear_slot;
+use wakings::clear;
 
-// Its value is the identifier, slot + 4 x generation.
-pub fn create_on(
-    sets: [Set; SETS],
-    values: &mut [u16; ALL_SEMAPHORES],
-    lasts: &mut [u8; ALL_SEMAPHORES],
+pub fn create(
+    host: &mut [u8; HOST_BYTES],
     adjustments: &mut [i16; ALL_ADJUSTMENTS],
-    arrays: &mut [u8],
-    line: Line,
+    wakings: &mut [u8; WAKING_BYTES],
     count: u8,
     read: u8,
     alter: u8,
 ) -> Told
-    requires { ⌜ Held (hostWith sets (now values) (now lasts) (now adjustments) (now arrays) line) ⌝ }
-    ensures { λ r. ⌜ stepWith (now (values .exit)) (now (lasts .exit)) (now (adjustments .exit)) (now (arrays .exit)) r ≡ stepOf (doCreate (stateOf (hostWith sets (now (values .entry)) (now (lasts .entry)) (now (adjustments .entry)) (now (arrays .entry)) line)) count read alter) ⌝ }
+    requires { ⌜ Held (hostIn (now host) (now adjustments)) ⌝ }
+    ensures { λ r. ⌜ afterIn (now (host .exit)) (now (adjustments .exit)) (now (wakings .exit)) r ≡ afterOf (doCreate (stateIn (hostIn (now (host .entry)) (now (adjustments .entry)))) count read alter) ⌝ }
 {
-    let mut after = sets;
-    let slot = free_slot(sets);
-    let code = check_create(slot, count);
-    let mut value: u32 = 0;
-    if code == 0 {
-        let free = sets[slot];
-        value = (slot as u32) + (SETS as u32) * (free.generation as u32);
-        after[slot] = Set {
-            generation: free.generation,
-            count: count,
-            read: read,
-            alter: alter,
-        };
-        clear_slot(values, lasts, adjustments, slot);
+    clear(wakings);
+    let code = check_create(&*host, count);
+    if code != 0 {
+        return quiet(code, 0);
     }
-    Told {
-        sets: after,
-        code: answer(code),
-        value: value,
-        woken: unwoken(line),
-    }
-}
-
-pub fn create(h: Host, count: u8, read: u8, alter: u8) -> Step
-    requires { ⌜ Held h ⌝ }
-    ensures { λ r. ⌜ r ≡ stepOf (doCreate (stateOf h) count read alter) ⌝ }
-{
-    let sets = h.sets;
-    let line = h.line;
-    let mut values = h.values;
-    let mut lasts = h.lasts;
-    let mut adjustments = h.adjustments;
-    let mut arrays = h.arrays;
-    let told = create_on(
-        sets,
-        &mut values,
-        &mut lasts,
-        &mut adjustments,
-        &mut arrays,
-        line,
-        count,
-        read,
-        alter,
-    );
-    step(values, lasts, adjustments, arrays, told)
+    let slot = free_slot(&*host);
+    let old = set_at(&*host, slot);
+    let generation = old.generation;
+    let set = Set {
+        generation: generation,
+        count: count,
+        read: read,
+        alter: alter,
+    };
+    put_set(&mut *host, slot, set);
+    clear_slot(host, adjustments, slot);
+    quiet(0, (slot as u32) + (SETS as u32) * (generation as u32))
 }

@@ -1,86 +1,63 @@
 // Exit: a process ends, and its adjustments are undone.
 ghost use mathlib.Core.Path.{_≡_};
 ghost use Rattle.model.specs.Waking.{waker};
-ghost use Rattle.model.specs.Events.{doExit};
-ghost use Rattle.model.specs.Layout.{Held, stateOf, stepOf};
-ghost use Rattle.service.specs.Told.{hostWith, stepWith};
-use crate::Told;
-use crate::checks::check_process;
-use crate::events::step;
-use crate::line::leave;
-use crate::quiet::refused;
-use crate::quiet::unwoken;
-use crate::table::touched_by_exit;
-use crate::table::undo_all;
-use crate::waking::wake_all;
+ghost use Rattle.model.specs.Events.{doExit, exited, touchedFrom};
+ghost use Rattle.model.specs.Limits.{slots};
+ghost use Rattle.model.specs.Invariant.{Good};
+ghost use Rattle.host.specs.Holding.{Held, hostIn, stateIn, tableIn};
+ghost use Rattle.service_table.specs.Numbered.{IsProcess};
+ghost use Rattle.service_table.specs.Written.{tabled};
+ghost use Rattle.service.specs.After.{afterIn, afterOf};
+use crate::events::quiet;
+use crate::events::told;
+use host::HOST_BYTES;
 use model::ALL_ADJUSTMENTS;
-use model::ALL_SEMAPHORES;
 use model::Engine;
-use model::Host;
-use model::Line;
 use model::SETS;
-use model::Set;
-use model::Step;
+use model::Told;
+use model::WAKING_BYTES;
+use service_checks::check_process;
+use service_queue::leave;
+use service_table::undo_slot;
+use service_waking::wake_all;
+use wakings::clear;
 
-// A sleeper of the process goes without a waking; all sets are adjusted first, then treated.
-pub fn exit_on(
-    engine: Engine,
-    sets: [Set; SETS],
-    values: &mut [u16; ALL_SEMAPHORES],
-    lasts: &mut [u8; ALL_SEMAPHORES],
+// All sets are adjusted: the answer has for each the mask of its values that now differ.
+fn undo_all(
+    host: &mut [u8; HOST_BYTES],
     adjustments: &mut [i16; ALL_ADJUSTMENTS],
-    arrays: &mut [u8],
-    line: Line,
     process: u8,
-) -> Told
-    requires { ⌜ Held (hostWith sets (now values) (now lasts) (now adjustments) (now arrays) line) ⌝ }
-    ensures { λ r. ⌜ stepWith (now (values .exit)) (now (lasts .exit)) (now (adjustments .exit)) (now (arrays .exit)) r ≡ stepOf (doExit (waker engine) (stateOf (hostWith sets (now (values .entry)) (now (lasts .entry)) (now (adjustments .entry)) (now (arrays .entry)) line)) process) ⌝ }
+) -> [u8; SETS]
+    requires { ⌜ IsProcess process ⌝ }
+    requires { ⌜ Good (tableIn (hostIn (now host) (now adjustments))) ⌝ }
+    ensures { λ _. ⌜ hostIn (now (host .exit)) (now (adjustments .exit)) ≡ tabled (hostIn (now (host .entry)) (now (adjustments .entry))) (exited (tableIn (hostIn (now (host .entry)) (now (adjustments .entry)))) process) ⌝ }
+    ensures { λ r. ⌜ r ≡ touchedFrom slots 0 (tableIn (hostIn (now (host .entry)) (now (adjustments .entry)))) (exited (tableIn (hostIn (now (host .entry)) (now (adjustments .entry)))) process) ⌝ }
 {
-    let check = check_process(process);
-    if check != 0 {
-        return refused(check, sets, line);
+    let mut touched = [0u8; SETS];
+    for slot in 0..SETS {
+        let mask = undo_slot(&mut *host, &mut *adjustments, process, slot);
+        touched[slot] = mask;
     }
-    let before = *values;
-    let rest = leave(line, &mut *arrays, process);
-    undo_all(&mut *values, &mut *adjustments, process);
-    let touched = touched_by_exit(&before, &*values);
-    let woken = wake_all(
-        engine,
-        sets,
-        touched,
-        values,
-        lasts,
-        adjustments,
-        arrays,
-        unwoken(rest),
-    );
-    Told {
-        sets: sets,
-        code: 0,
-        value: 0,
-        woken: woken,
-    }
+    touched
 }
 
-pub fn exit(engine: Engine, h: Host, process: u8) -> Step
-    requires { ⌜ Held h ⌝ }
-    ensures { λ r. ⌜ r ≡ stepOf (doExit (waker engine) (stateOf h) process) ⌝ }
+// A sleeper of the process goes without a waking; all sets are adjusted first, then treated.
+pub fn exit(
+    host: &mut [u8; HOST_BYTES],
+    adjustments: &mut [i16; ALL_ADJUSTMENTS],
+    wakings: &mut [u8; WAKING_BYTES],
+    engine: Engine,
+    process: u8,
+) -> Told
+    requires { ⌜ Held (hostIn (now host) (now adjustments)) ⌝ }
+    ensures { λ r. ⌜ afterIn (now (host .exit)) (now (adjustments .exit)) (now (wakings .exit)) r ≡ afterOf (doExit (waker engine) (stateIn (hostIn (now (host .entry)) (now (adjustments .entry)))) process) ⌝ }
 {
-    let sets = h.sets;
-    let line = h.line;
-    let mut values = h.values;
-    let mut lasts = h.lasts;
-    let mut adjustments = h.adjustments;
-    let mut arrays = h.arrays;
-    let told = exit_on(
-        engine,
-        sets,
-        &mut values,
-        &mut lasts,
-        &mut adjustments,
-        &mut arrays,
-        line,
-        process,
-    );
-    step(values, lasts, adjustments, arrays, told)
+    clear(&mut *wakings);
+    let code = check_process(process);
+    if code != 0 {
+        return quiet(code, 0);
+    }
+    leave(&mut *host, process);
+    let touched = undo_all(&mut *host, &mut *adjustments, process);
+    told(wake_all(host, adjustments, wakings, engine, touched))
 }

@@ -1,14 +1,22 @@
 // Query: a semaphore's value and last process, and who waits for it.
 ghost use mathlib.Core.Path.{_≡_};
+ghost use Prim.Native.Nat.{_<_};
+ghost use Rattle.model.specs.Limits.{semaphores};
 ghost use lib.IntN.{pos};
+ghost use lib.ListN.{length, getD};
+ghost use Rattle.model.specs.State.{noSleeper};
 ghost use Rattle.model.specs.Events.{answer as answerOf, doQuery};
-ghost use Rattle.model.specs.Layout.{Held, stateOf, queueOf, sleeperAt, queriedOf};
-ghost use Rattle.service.specs.Parts.{IsArrays, Placed};
-ghost use Rattle.service.specs.Told.{hostWith};
-ghost use Rattle.service.specs.Query.{Seated, Waits, Waiting, lookTable};
-use crate::checks::check_number;
-use crate::waking::bit_of;
-use crate::waking::look;
+ghost use Rattle.host.specs.Holding.{Held, hostIn, stateIn, tableIn, queueIn};
+ghost use Rattle.service.specs.After.{queriedOf};
+ghost use Rattle.service.specs.Waiting.{waitsOf, waitersOf};
+use host::HOST_BYTES;
+use host::array_of;
+use host::asleep_of;
+use host::last_at;
+use host::names_at;
+use host::process_at;
+use host::slot_at;
+use host::value_at;
 use judging::answer;
 use judging::finishes;
 use judging::half;
@@ -16,16 +24,12 @@ use judging::is_negative;
 use judging::signed_of;
 use judging::slot_of;
 use model::ALL_ADJUSTMENTS;
-use model::ALL_SEMAPHORES;
-use model::ARRAY_BYTES;
-use model::Host;
-use model::Line;
 use model::OPERATION_BYTES;
-use model::Place;
 use model::Queried;
 use model::SEMAPHORES;
-use model::SETS;
-use model::Set;
+use service_checks::check_number;
+use service_waking::bit_of;
+use service_waking::look;
 
 // Those who wait at a semaphore, as masks of processes: for an increase, and for zero.
 pub struct Waiters {
@@ -35,35 +39,43 @@ pub struct Waiters {
 
 // The bit of a sleeper's process, in the mask of what it waits for at the semaphore; in none if it does not.
 fn one_waiter(
-    values: &[u16; ALL_SEMAPHORES],
+    host: &[u8; HOST_BYTES],
     adjustments: &[i16; ALL_ADJUSTMENTS],
-    arrays: &[u8],
-    place: Place,
+    at: usize,
     slot: usize,
     number: u16,
 ) -> Waiters
-    requires { ⌜ IsArrays (now arrays) ⌝ }
-    requires { ⌜ Placed (now arrays) place ⌝ }
-    ensures { λ r. ⌜ Waits (lookTable (now (values .entry)) (now (adjustments .entry))) slot number (sleeperAt (now (arrays .entry)) place) (r .increase) (r .zero) ⌝ }
+    requires { ⌜ Held (hostIn (now host) (now adjustments)) ⌝ }
+    requires { ⌜ at < length (queueIn (hostIn (now host) (now adjustments) .row)) ⌝ }
+    requires { ⌜ number < semaphores ⌝ }
+    ensures { λ r. ⌜ r ≡ waitsOf (tableIn (hostIn (now (host .entry)) (now (adjustments .entry)))) slot number (getD (queueIn (hostIn (now (host .entry)) (now (adjustments .entry)) .row)) at noSleeper) ⌝ }
 {
     let none = Waiters {
         increase: 0,
         zero: 0,
     };
-    if place.slot as usize != slot {
+    let process = process_at(host, at);
+    if slot_at(host, process) != slot {
         return none;
     }
-    let judged = look(values, adjustments, arrays, place);
-    let outcome = judged.outcome;
+    let named = names_at(host, process) & (1u8 << number);
+    if named == 0 {
+        return none;
+    }
+    let mut values = [0u16; SEMAPHORES];
+    let mut undo = [0i16; SEMAPHORES];
+    let verdict = look(host, adjustments, at, &mut values, &mut undo);
+    let outcome = verdict.outcome;
     if finishes(outcome) {
         return none;
     }
-    let at = ARRAY_BYTES * ((place.process - 1) as usize) + OPERATION_BYTES * judged.position;
-    if half(arrays[at], arrays[at + 1]) != number {
+    let bytes = array_of(host, process);
+    let from = OPERATION_BYTES * verdict.position;
+    if half(bytes[from], bytes[from + 1]) != number {
         return none;
     }
-    let amount = signed_of(half(arrays[at + 2], arrays[at + 3]));
-    let bit = bit_of(place.process);
+    let amount = signed_of(half(bytes[from + 2], bytes[from + 3]));
+    let bit = bit_of(process);
     if is_negative(amount) {
         Waiters {
             increase: bit,
@@ -79,23 +91,21 @@ fn one_waiter(
 
 // One walk over the sleepers, each judged on the present state.
 fn all_waiters(
-    values: &[u16; ALL_SEMAPHORES],
+    host: &[u8; HOST_BYTES],
     adjustments: &[i16; ALL_ADJUSTMENTS],
-    arrays: &[u8],
-    line: Line,
     slot: usize,
     number: u16,
 ) -> Waiters
-    requires { ⌜ Seated line (now arrays) ⌝ }
-    ensures { λ r. ⌜ Waiting (lookTable (now (values .entry)) (now (adjustments .entry))) slot number (queueOf line (now (arrays .entry))) (r .increase) (r .zero) ⌝ }
+    requires { ⌜ Held (hostIn (now host) (now adjustments)) ⌝ }
+    requires { ⌜ number < semaphores ⌝ }
+    ensures { λ r. ⌜ r ≡ waitersOf (tableIn (hostIn (now (host .entry)) (now (adjustments .entry)))) slot number (queueIn (hostIn (now (host .entry)) (now (adjustments .entry)) .row)) ⌝ }
 {
-    let asleep = line.asleep;
+    let n = asleep_of(host);
     let mut increase: u8 = 0;
     let mut zero: u8 = 0;
     let mut i = 0;
-    while i < asleep {
-        let place = line.places[i];
-        let one = one_waiter(values, adjustments, arrays, place, slot, number);
+    while i < n {
+        let one = one_waiter(host, adjustments, i, slot, number);
         increase = increase | one.increase;
         zero = zero | one.zero;
         i += 1;
@@ -122,55 +132,29 @@ fn refused(code: u8) -> Queried
 }
 
 // A wait count is the number of ones in its mask.
-pub fn query_on(
-    sets: [Set; SETS],
-    values: &[u16; ALL_SEMAPHORES],
-    lasts: &[u8; ALL_SEMAPHORES],
+pub fn query(
+    host: &[u8; HOST_BYTES],
     adjustments: &[i16; ALL_ADJUSTMENTS],
-    arrays: &[u8],
-    line: Line,
     identifier: i32,
     number: u16,
 ) -> Queried
-    requires { ⌜ Held (hostWith sets (now values) (now lasts) (now adjustments) (now arrays) line) ⌝ }
-    ensures { λ r. ⌜ r ≡ queriedOf (doQuery (stateOf (hostWith sets (now (values .entry)) (now (lasts .entry)) (now (adjustments .entry)) (now (arrays .entry)) line)) identifier number .answer) ⌝ }
+    requires { ⌜ Held (hostIn (now host) (now adjustments)) ⌝ }
+    ensures { λ r. ⌜ r ≡ queriedOf (doQuery (stateIn (hostIn (now (host .entry)) (now (adjustments .entry)))) identifier number .answer) ⌝ }
 {
-    let code = check_number(sets, identifier, number);
+    let code = check_number(host, identifier, number);
     if code != 0 {
         return refused(code);
     }
     let slot = slot_of(identifier);
     let at = slot * SEMAPHORES + (number as usize);
-    let w = all_waiters(values, adjustments, arrays, line, slot, number);
+    let w = all_waiters(host, adjustments, slot, number);
     Queried {
         code: 0,
-        value: values[at],
-        last: lasts[at],
+        value: value_at(host, at),
+        last: last_at(host, at),
         increase: u8::count_ones(w.increase),
         zero: u8::count_ones(w.zero),
         increase_mask: w.increase,
         zero_mask: w.zero,
     }
-}
-
-pub fn query(h: Host, identifier: i32, number: u16) -> Queried
-    requires { ⌜ Held h ⌝ }
-    ensures { λ r. ⌜ r ≡ queriedOf (doQuery (stateOf h) identifier number .answer) ⌝ }
-{
-    let sets = h.sets;
-    let line = h.line;
-    let values = h.values;
-    let lasts = h.lasts;
-    let adjustments = h.adjustments;
-    let arrays = h.arrays;
-    query_on(
-        sets,
-        &values,
-        &lasts,
-        &adjustments,
-        &arrays,
-        line,
-        identifier,
-        number,
-    )
 }

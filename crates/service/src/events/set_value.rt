@@ -2,89 +2,44 @@
 ghost use mathlib.Core.Path.{_≡_};
 ghost use Rattle.model.specs.Waking.{waker};
 ghost use Rattle.model.specs.Events.{doSetValue};
-ghost use Rattle.model.specs.Layout.{Held, stateOf, stepOf};
-ghost use Rattle.service.specs.Told.{hostWith, stepWith};
-use crate::Told;
-use crate::checks::check_set_value;
-use crate::events::step;
-use crate::quiet::refused;
-use crate::quiet::unwoken;
-use crate::table::assign;
-use crate::waking::wake;
+ghost use Rattle.host.specs.Holding.{Held, hostIn, stateIn};
+ghost use Rattle.service.specs.After.{afterIn, afterOf};
+use crate::events::nobody;
+use crate::events::quiet;
+use crate::events::told;
+use host::HOST_BYTES;
 use judging::slot_of;
 use judging::value_of;
 use model::ALL_ADJUSTMENTS;
-use model::ALL_SEMAPHORES;
 use model::Engine;
-use model::Host;
-use model::Line;
-use model::SETS;
-use model::Set;
-use model::Step;
+use model::Told;
+use model::WAKING_BYTES;
+use service_checks::check_set_value;
+use service_table::assign;
+use service_waking::wake;
+use wakings::clear;
 
 // The named semaphore is always touched, whatever its value was: cleared adjustments can change an outcome.
-pub fn set_value_on(
-    engine: Engine,
-    sets: [Set; SETS],
-    values: &mut [u16; ALL_SEMAPHORES],
-    lasts: &mut [u8; ALL_SEMAPHORES],
+pub fn set_value(
+    host: &mut [u8; HOST_BYTES],
     adjustments: &mut [i16; ALL_ADJUSTMENTS],
-    arrays: &mut [u8],
-    line: Line,
+    wakings: &mut [u8; WAKING_BYTES],
+    engine: Engine,
     identifier: i32,
     number: u16,
     value: i32,
 ) -> Told
-    requires { ⌜ Held (hostWith sets (now values) (now lasts) (now adjustments) (now arrays) line) ⌝ }
-    ensures { λ r. ⌜ stepWith (now (values .exit)) (now (lasts .exit)) (now (adjustments .exit)) (now (arrays .exit)) r ≡ stepOf (doSetValue (waker engine) (stateOf (hostWith sets (now (values .entry)) (now (lasts .entry)) (now (adjustments .entry)) (now (arrays .entry)) line)) identifier number value) ⌝ }
+    requires { ⌜ Held (hostIn (now host) (now adjustments)) ⌝ }
+    ensures { λ r. ⌜ afterIn (now (host .exit)) (now (adjustments .exit)) (now (wakings .exit)) r ≡ afterOf (doSetValue (waker engine) (stateIn (hostIn (now (host .entry)) (now (adjustments .entry)))) identifier number value) ⌝ }
 {
-    let check = check_set_value(sets, identifier, number, value);
-    if check != 0 {
-        return refused(check, sets, line);
+    clear(&mut *wakings);
+    let code = check_set_value(&*host, identifier, number, value);
+    if code != 0 {
+        return quiet(code, 0);
     }
     let slot = slot_of(identifier);
     let at = number as usize;
-    assign(&mut *values, &mut *adjustments, slot, at, value_of(value));
+    assign(&mut *host, &mut *adjustments, slot, at, value_of(value));
     let touched = 1u8 << at;
-    let woken = wake(
-        engine,
-        slot,
-        touched,
-        values,
-        lasts,
-        adjustments,
-        arrays,
-        unwoken(line),
-    );
-    Told {
-        sets: sets,
-        code: 0,
-        value: 0,
-        woken: woken,
-    }
-}
-
-pub fn set_value(engine: Engine, h: Host, identifier: i32, number: u16, value: i32) -> Step
-    requires { ⌜ Held h ⌝ }
-    ensures { λ r. ⌜ r ≡ stepOf (doSetValue (waker engine) (stateOf h) identifier number value) ⌝ }
-{
-    let sets = h.sets;
-    let line = h.line;
-    let mut values = h.values;
-    let mut lasts = h.lasts;
-    let mut adjustments = h.adjustments;
-    let mut arrays = h.arrays;
-    let told = set_value_on(
-        engine,
-        sets,
-        &mut values,
-        &mut lasts,
-        &mut adjustments,
-        &mut arrays,
-        line,
-        identifier,
-        number,
-        value,
-    );
-    step(values, lasts, adjustments, arrays, told)
+    told(wake(host, adjustments, wakings, engine, slot, touched, nobody()))
 }

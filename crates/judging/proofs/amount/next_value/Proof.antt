@@ -1,88 +1,75 @@
--- The tests are those of a signed number; proofs/Values.antt has the definition by each of them.
+-- Where the amount leads decides (proofs/Values.antt).
 use borrow.Author.Needs.{needs}
-use borrow.Author.Tests.{eq-eqb, ne-eqb}
-use mathlib.Core.Path.{_≡_}
-use lib.IntN.{pos}
+use mathlib.Core.Path.{_≡_, sym, _∙_}
+use mathlib.Core.Bool.{true, false}
+use mathlib.Core.Logic.{⊎-elim}
+use lib.IntN.{ℤ, pos}
+use lib.Signed.{ltZ}
+use mir.Syntax.{w32}
 use mir.Facts.{toZ-ofZ}
-use Rattle.model.specs.Judge.{nextValue}
-use Rattle.judging.proofs.Signed.{wide, value-is, sum-fits, sum-is, magnitude-fits, magnitude-is}
-use Rattle.judging.proofs.Values as law
+use mir.Val.{toZ, ofZ}
+use Rattle.judging.proofs.Signed.{clash, unsigned, at-most}
+use Rattle.judging.proofs.Values.{moved, next-is, lowered-fits}
 use Rattle.judging.proofs.amount.next_value.Statement.{statement}
 use Rattle.judging.proofs.amount.next_value.Tie as tie
 
-cast-old : tie.Need-cast-old
-cast-old c = search needs
+moved-requires : tie.Need-moved-requires
+moved-requires c κs = search needs
 
-cast-new : tie.Need-cast-new
-cast-new c = wide (c .fits .amount)
+-- where the amount leads
+abbrev new : tie.After-moved → ℤ
+new c = moved (c .before .args .value) (c .before .args .amount)
 
-add-new : tie.Need-add-new
-add-new c = sum-fits (c .fits .value) (c .fits .amount)
+-- .. as it stands in a local
+new-is : (c : tie.After-moved) → toZ w32 (ofZ w32 (c .moved .result)) ≡ new c
+new-is c = toZ-ofZ (record { sfits = c .moved .ok }) ∙ (rw (toZ-ofZ (c .before .fits .amount)) at (c .moved .ensures))
 
-sub-magnitude : tie.Need-sub-magnitude
-sub-magnitude c = magnitude-fits (c .before .before .fits .amount)
+-- in range
+low : (c : tie.Then2) → ltZ (new (c .before .before)) (pos 0) ≡ false
+low c = at-most (pos 0) (new (c .before .before)) true (rw (new-is (c .before .before)) at (c .before .if1 .taken))
 
-cast-magnitude : tie.Need-cast-magnitude
-cast-magnitude c = wide (c .before .before .fits .amount)
+high : (c : tie.Then2) → ltZ (pos 32767) (new (c .before .before)) ≡ false
+high c = at-most (new (c .before .before)) (pos 32767) true (rw (new-is (c .before .before)) at (c .if2 .taken))
 
-cast-t11 : tie.Need-cast-t11
-cast-t11 c =
-    let s = c .before .before in
-    let e = sum-is (s .fits .value) (s .fits .amount) in
-    rw e (law.up-fits (s .args .value) (s .args .amount) (rw (toZ-ofZ (s .fits .amount)) at (c .before .if1 .taken)) (rw e at (c .if2 .left)))
+-- neither in range nor below 0
+above : (c : tie.Else3) → ltZ (pos 32767) (new (c .before .before)) ≡ true
+above c =
+    let e = new-is (c .before .before) in
+    let n = new (c .before .before) in
+    ⊎-elim
+    (λ w. at-most n (pos 32767) false (rw e at (w .1 .left)))
+    (λ w. clash (sym (rw e at (c .if3 .left)) ∙ at-most (pos 0) n false (rw e at (w .left))))
+    (c .before .if1 .came)
 
-cast-t17 : tie.Need-cast-t17
-cast-t17 c =
-    let s = c .before .before .before in
-    rw (sum-is (s .fits .value) (s .fits .amount)) (law.down-fits (s .args .value) (s .args .amount) (s .fits .value) (rw (toZ-ofZ (s .fits .amount)) at (c .before .if3 .taken)) (rw (value-is (s .fits .value), magnitude-is (s .fits .amount)) at (c .if4 .left)))
+cast-t7 : tie.Need-cast-t7
+cast-t7 c = rw (new-is (c .before .before)) (unsigned (new (c .before .before)) (low c) (high c))
+
+cast-t12 : tie.Need-cast-t12
+cast-t12 c =
+    let m = c .before .before .before in
+    let e = new-is m in
+    rw e (lowered-fits _ _ (m .before .fits .value) (rw e at (c .before .if3 .left)) (rw (toZ-ofZ (m .before .fits .amount)) at (c .if4 .left)))
 
 returns : tie.Need-returns
 returns c =
-    let s = c .before .before in
-    law.over _ _ (rw (toZ-ofZ (s .fits .amount)) at (c .before .if1 .taken)) (rw (sum-is (s .fits .value) (s .fits .amount)) at (c .if2 .taken))
+    let m = c .before .before in
+    rw (new-is m, next-is (m .before .args .value) (m .before .args .amount), low c, high c)
 
 returns-2 : tie.Need-returns-2
 returns-2 c =
-    let s = c .before .before in
-    let e = sum-is (s .fits .value) (s .fits .amount) in
-    rw e (law.up _ _ (rw (toZ-ofZ (s .fits .amount)) at (c .before .if1 .taken)) (rw e at (c .if2 .left)))
+    let m = c .before .before in
+    rw (next-is (m .before .args .value) (m .before .args .amount), rw (new-is m) at (c .if3 .taken))
 
 returns-3 : tie.Need-returns-3
 returns-3 c =
-    let s = c .before .before .before in
-    law.stop _ _ (rw (toZ-ofZ (s .fits .amount)) at (c .before .if3 .taken)) (rw (value-is (s .fits .value), magnitude-is (s .fits .amount)) at (c .if4 .taken))
+    let m = c .before .before .before in
+    rw (next-is (m .before .args .value) (m .before .args .amount), rw (new-is m) at (c .before .if3 .left), above (c .before), rw (toZ-ofZ (m .before .fits .amount)) at (c .if4 .taken))
 
 returns-4 : tie.Need-returns-4
 returns-4 c =
-    let s = c .before .before .before in
-    rw (sum-is (s .fits .value) (s .fits .amount)) (law.down _ _ (rw (toZ-ofZ (s .fits .amount)) at (c .before .if3 .taken)) (rw (value-is (s .fits .value), magnitude-is (s .fits .amount)) at (c .if4 .left)))
-
--- neither above 0 nor below
-none : (c : tie.Else3) → c .before .before .args .amount ≡ pos 0
-none c = let e = toZ-ofZ (c .before .before .fits .amount) in law.none _ (rw e at (c .before .if1 .left)) (rw e at (c .if3 .left))
-
-returns-5 : tie.Need-returns-5
-unfolding nextValue
-returns-5 c = rw (none (c .before), eq-eqb _ _ (c .if5 .taken))
-
-returns-6 : tie.Need-returns-6
-unfolding nextValue
-returns-6 c = rw (none (c .before), ne-eqb _ _ (c .if5 .left))
+    let m = c .before .before .before in
+    rw (new-is m, next-is (m .before .args .value) (m .before .args .amount), rw (new-is m) at (c .before .if3 .left), above (c .before), rw (toZ-ofZ (m .before .fits .amount)) at (c .if4 .left))
 
 pub next-value-spec : {M : Type 1} → statement M
 next-value-spec =
-    tie.close
-    (tie.spec
-    cast-old
-    cast-new
-    add-new
-    cast-t11
-    cast-magnitude
-    sub-magnitude
-    cast-t17
-    returns
-    returns-2
-    returns-3
-    returns-4
-    returns-5
-    returns-6)
+    tie.close (tie.spec moved-requires cast-t7 cast-t12 returns returns-2 returns-3 returns-4)

@@ -1,7 +1,9 @@
 -- Each field is what a call gives of two bytes.
 use borrow.Author.Needs.{needs}
+use mathlib.Core.Path.{_∙_}
 use mir.Syntax.{w16}
 use mir.Facts.{toZ-ofZ}
+use Rattle.judging.proofs.Operations.{read-as}
 use Rattle.judging.proofs.operation.operation_at.Statement.{statement}
 use Rattle.judging.proofs.operation.operation_at.Tie as tie
 
@@ -52,8 +54,10 @@ half-requires-3 c κs = search needs
 
 returns : tie.Need-returns
 returns c =
-    let e = toZ-ofZ {w = w16} {z = c .before .before .before .signed-of .result} (record { sfits = c .before .before .before .signed-of .ok }) in
-    cc
+    let a = c .before .before .before in
+    let e = toZ-ofZ {w = w16} {z = a .signed-of .result} (record { sfits = a .signed-of .ok }) in
+    let s = a .before .before .before .before .before .before .before .before .args in
+    read-as (s .bytes .now) (s .at) _ (a .before .half2 .result) _ _ (a .before .before .before .before .half .ensures) (a .before .half2 .ensures) (e ∙ a .signed-of .ensures) (c .half3 .ensures)
 
 pub operation-at-spec : {M : Type 1} → statement M
 operation-at-spec =

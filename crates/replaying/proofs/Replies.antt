@@ -1,0 +1,52 @@
+-- An event is run and its reply written: the line is that of the event, and the host is the one after it.
+use Prim.Native.Nat.{ℕ, _+_, _≤_}
+use mathlib.Core.Path.{_≡_, refl, ap, _∙_}
+use mathlib.Core.List.{List}
+use lib.ListN.{length, take}
+use Rattle.model.specs.declared.Engine.{Engine}
+use Rattle.model.specs.declared.Waking.{Waking}
+use Rattle.model.specs.declared.Reply.{Reply}
+use Rattle.model.specs.Waking.{waker}
+use Rattle.model.specs.Events.{Event, create, operate, setValue, remove, signal, exit, query, Result, event}
+use Rattle.host.specs.Holding.{Host, hostOf, stateIn}
+use Rattle.wakings.specs.Wakings.{listOf}
+use Rattle.wakings.proofs.ListLaws.{take-listed}
+use Rattle.service.specs.After.{Replied, replyOf, repliedOf}
+use Rattle.runfile.specs.Body.{eventAt}
+use Rattle.lines.specs.Text.{eventText, eventLine, lineOf}
+use Rattle.lines.specs.Buffer.{lineBytes, putLine}
+use Rattle.replaying.specs.Replay.{Stage, nextResult, nextLine, replyText}
+
+-- the line of what a result's event is answered
+module _ (position : ℕ) (r : Result) where
+  told : eventText position (r .answer .code) (r .answer .value) (r .looks) (take (length (r .wakings)) (listOf (r .wakings))) ≡ eventLine position r
+  told = ap (eventText position (r .answer .code) (r .answer .value) (r .looks)) (take-listed (r .wakings))
+
+  pub reply-line : (e : Event) → replyText position (listOf (r .wakings)) (replyOf e r) ≡ lineOf position e r
+  unfolding lineOf
+  reply-line (create count read alter) = told
+  reply-line (operate p i bytes) = told
+  reply-line (setValue i n v) = told
+  reply-line (remove i) = told
+  reply-line (signal p) = told
+  reply-line (exit p) = told
+  reply-line (query i n) = refl
+
+pub record Turned (engine : Engine) (file : List ℕ) (s : Stage) (out : List ℕ) (next : ℕ) (x : Host) (out′ : List ℕ) (next′ : ℕ) : Type 0 where
+  pub host : x ≡ hostOf (nextResult engine file s .state)
+  pub put : (next′, out′) ≡ putLine out next (nextLine engine file s)
+  pub fits : next′ ≤ next + lineBytes
+
+-- what `run` and then `reply_line` promise, of the event that stands next in the file
+pub turned : (engine : Engine) (file : List ℕ) (s : Stage) (out : List ℕ) (next : ℕ) {x : Host} {list : List Waking} {reply : Reply} {e : Event} {out′ : List ℕ} {next′ : ℕ}
+    → e ≡ eventAt file (s .at) → record { host = x; wakings = list; reply = reply } ≡ repliedOf e (event (waker engine) (stateIn (s .host)) e)
+    → (next′, out′) ≡ putLine out next (replyText (s .position) list reply) → next′ ≤ next + lineBytes
+    → Turned engine file s out next x out′ next′
+unfolding nextLine
+turned engine file s out next {x} {list} {reply} at r l fits =
+    let a = rw at at r in
+    record {
+      host = ap (λ (y : Replied). y .host) a;
+      put = l ∙ ap (putLine out next) (ap (λ (y : Replied). replyText (s .position) (y .wakings) (y .reply)) a ∙ reply-line (s .position) (nextResult engine file s) (eventAt file (s .at)));
+      fits = fits;
+    }

@@ -1,0 +1,146 @@
+-- Create and remove: the set in a slot changes, with the numbers of the slot and its sleepers.
+use Prim.Native.Nat.{ℕ, zero, suc, _+_, _*_, _%_, _<_}
+use mathlib.Core.Path.{_≡_, refl, sym, ap, ap₂, subst, _∙_}
+use mathlib.Core.List.{List, [], _∷_, map}
+use lib.IntN.{ℤ, pos}
+use lib.ListN.{length, getD, set}
+use Rattle.model.specs.declared.Set.{Set}
+use Rattle.model.specs.declared.Told.{Told}
+use Rattle.model.specs.declared.Waking.{Waking}
+use Rattle.model.specs.Limits.{slots}
+use Rattle.model.specs.State.{Table, Sleeper, State, freeSet, noSet}
+use Rattle.model.specs.Marks.{mine}
+use Rattle.model.specs.Checks.{slotOf, freeSlot, identifierOf, checkCreate, checkRemove}
+use Rattle.model.specs.Events.{keep, endedWith, cleared, doCreate, doRemove}
+use Rattle.model.proofs.CheckLaws.{create-passes, remove-passes}
+use Rattle.host.specs.Parts.{Part, generations, counts, readers, alterers, values, lasts, asleep, order, sleepsAt, sizes, names, arrays, Row}
+use Rattle.host.specs.Holding.{Host, withQueue, withTable, withSets, hostOf, setAt, withSet, setsIn, queueIn, tableIn, stateIn, Held, arrayIn}
+use Rattle.host.specs.Queue.{Queued, Lined}
+use Rattle.host.proofs.PartLaws.{by-values}
+use Rattle.host.proofs.SetRows.{set-in}
+use Rattle.wakings.specs.Wakings.{listOf}
+use Rattle.service_table.specs.Written.{tabled}
+use Rattle.service_queue.specs.Seated.{notMine}
+use Rattle.service.specs.After.{telling, afterOf}
+use Rattle.service.proofs.EventLaws.{held-lined, held-queued, goes-on}
+
+map-set : {A B : Type 0} (f : A → B) (l : List A) (i : ℕ) (x : A) → set (map f l) i (f x) ≡ map f (set l i x)
+map-set f [] i x = refl
+map-set f (y ∷ l) zero x = refl
+map-set {B = B} f (y ∷ l) (suc i) x = ap (λ (r : List B). f y ∷ r) (map-set f l i x)
+
+-- a set put into a slot of a host, another table, and another queue
+module _ (x : Host) (k : Held x) (slot : ℕ) (s : Set) (t : Table) (q : List Sleeper) where
+  at : (p : Part) → x .row p ≡ hostOf (stateIn x) .row p
+  at p = ap (λ (y : Host). y .row p) (k .holds)
+
+  pub set-host : record { row = withQueue (withTable (withSet (x .row) slot s) t) q; adjustments = t .adjustments } ≡ hostOf (record { sets = set (setsIn (x .row)) slot s; table = t; queue = q })
+  set-host = ap (λ (r : Row). record { row = r; adjustments = t .adjustments }) (by-values each)
+    where
+      each : (p : Part) → withQueue (withTable (withSet (x .row) slot s) t) q p ≡ hostOf (record { sets = set (setsIn (x .row)) slot s; table = t; queue = q }) .row p
+      each generations = ap (λ (l : List ℕ). set l slot (s .generation)) (at generations) ∙ map-set (λ (y : Set). y .generation) (setsIn (x .row)) slot s
+      each counts = ap (λ (l : List ℕ). set l slot (s .count)) (at counts) ∙ map-set (λ (y : Set). y .count) (setsIn (x .row)) slot s
+      each readers = ap (λ (l : List ℕ). set l slot (s .read)) (at readers) ∙ map-set (λ (y : Set). y .read) (setsIn (x .row)) slot s
+      each alterers = ap (λ (l : List ℕ). set l slot (s .alter)) (at alterers) ∙ map-set (λ (y : Set). y .alter) (setsIn (x .row)) slot s
+      each values = refl
+      each lasts = refl
+      each asleep = refl
+      each order = refl
+      each sleepsAt = refl
+      each sizes = refl
+      each names = refl
+      each arrays = refl
+
+  -- the queue's parts stay
+  row-kept : withTable (withSet (x .row) slot s) t ≡ withQueue (withTable (withSet (x .row) slot s) t) (queueIn (x .row))
+  row-kept = by-values each
+    where
+      line : (p : Part) → x .row p ≡ withQueue (x .row) (queueIn (x .row)) p
+      line p = ap (λ (y : Row). y p) (held-lined x k .holds)
+
+      each : (p : Part) → withTable (withSet (x .row) slot s) t p ≡ withQueue (withTable (withSet (x .row) slot s) t) (queueIn (x .row)) p
+      each generations = refl
+      each counts = refl
+      each readers = refl
+      each alterers = refl
+      each values = refl
+      each lasts = refl
+      each asleep = line asleep
+      each order = line order
+      each sleepsAt = line sleepsAt
+      each sizes = line sizes
+      each names = line names
+      each arrays = line arrays
+
+  queue-kept : queueIn (withTable (withSet (x .row) slot s) t) ≡ queueIn (x .row)
+  unfolding queueIn arrayIn
+  queue-kept = refl
+
+-- ---- create
+
+module _ (x : Host) (k : Held x) (count read alter : ℕ) (z : checkCreate (stateIn x) count ≡ 0) where
+  pub create-slot : freeSlot (setsIn (x .row)) < slots
+  create-slot = create-passes (stateIn x) count z .slot
+
+  pub created : {slot value g : ℕ} {r : Row} {y : Host} {l : List Waking} {told : Told} → slot ≡ freeSlot (setsIn (x .row)) → g ≡ setAt (x .row) slot .generation
+      → r ≡ withSet (x .row) slot (record { generation = g; count = count; read = read; alter = alter })
+      → y ≡ tabled (record { row = r; adjustments = x .adjustments }) (cleared (tableIn (record { row = r; adjustments = x .adjustments })) slot)
+      → l ≡ listOf [] → value ≡ slot + slots * g → told ≡ telling (pos 0) value 0 0
+      → record { host = y; wakings = l; told = told } ≡ afterOf (doCreate (stateIn x) count read alter)
+  unfolding doCreate identifierOf
+  created {slot} {value} {g} {r} {y} {l} {told} es eg er ey el ev et =
+      let s : Set = record { generation = g; count = count; read = read; alter = alter } in
+      let c : Table = cleared (tableIn x) slot in
+      let old : g ≡ getD (setsIn (x .row)) slot noSet .generation = eg ∙ ap (λ (u : Set). u .generation) (sym (set-in (x .row) slot (rw es create-slot))) in
+      let h : y ≡ hostOf (record { sets = set (setsIn (x .row)) slot s; table = c; queue = queueIn (x .row) }) =
+      ey ∙ ap (λ (a : Row). tabled (record { row = a; adjustments = x .adjustments }) (cleared (tableIn (record { row = a; adjustments = x .adjustments })) slot)) er
+      ∙ ap (λ (a : Row). record { row = a; adjustments = c .adjustments }) (row-kept x k slot s c (queueIn (x .row)))
+      ∙ set-host x k slot s c (queueIn (x .row)) in
+      ap₂ (λ (a : Host) (w : List Waking). record { host = a; wakings = w; told = told }) h el
+      ∙ ap (λ (u : Told). record { host = hostOf (record { sets = set (setsIn (x .row)) slot s; table = c; queue = queueIn (x .row) }); wakings = listOf []; told = u }) (et ∙ ap (λ (v : ℕ). telling (pos 0) v 0 0) ev)
+      ∙ rw (old, es) (ap afterOf (goes-on (stateIn x) _ z))
+
+-- ---- remove
+
+module _ (x : Host) (k : Held x) (i : ℤ) (z : checkRemove (stateIn x) i ≡ 0) where
+  pub remove-slot : slotOf i < slots
+  remove-slot = remove-passes (stateIn x) i z .slot
+
+  module _ {slot g : ℕ} {r : Row} {y : Host} (es : slot ≡ slotOf i) (eg : g ≡ (setAt (x .row) slot .generation + 1) % 65536)
+      (er : r ≡ withSet (x .row) slot (freeSet g))
+      (ey : y ≡ tabled (record { row = r; adjustments = x .adjustments }) (cleared (tableIn (record { row = r; adjustments = x .adjustments })) slot)) where
+    abbrev free : Set
+    free = freeSet g
+
+    abbrev none-left : Table
+    none-left = cleared (tableIn x) slot
+
+    there : y ≡ record { row = withTable (withSet (x .row) slot (freeSet g)) (cleared (tableIn x) slot); adjustments = cleared (tableIn x) slot .adjustments }
+    there = ey ∙ ap (λ (a : Row). tabled (record { row = a; adjustments = x .adjustments }) (cleared (tableIn (record { row = a; adjustments = x .adjustments })) slot)) er
+
+    queue-there : queueIn (y .row) ≡ queueIn (x .row)
+    queue-there = ap (λ (a : Host). queueIn (a .row)) there ∙ queue-kept x k slot (freeSet g) (cleared (tableIn x) slot) (queueIn (x .row))
+
+    pub removed-lined : Lined (y .row)
+    removed-lined =
+        record {
+          holds = ap (λ (a : Host). a .row) there ∙ row-kept x k slot (freeSet g) (cleared (tableIn x) slot) (queueIn (x .row))
+              ∙ ap₂ withQueue (ap (λ (a : Host). a .row) (sym there)) (sym queue-there);
+          fits = subst Queued (sym queue-there) (held-queued x k);
+        }
+
+    pub removed : {r′ : Row} {l : List Waking} {woken : ℕ} {told : Told} → r′ ≡ withQueue (y .row) (keep (notMine slot) (queueIn (y .row)))
+        → l ≡ listOf (endedWith (pos 43) (mine slot) (queueIn (y .row))) → woken ≡ length (endedWith (pos 43) (mine slot) (queueIn (y .row))) → told ≡ telling (pos 0) 0 0 woken
+        → record { host = record { row = r′; adjustments = y .adjustments }; wakings = l; told = told } ≡ afterOf (doRemove (stateIn x) i)
+    unfolding doRemove
+    removed {r′} {l} {woken} {told} ek el en et =
+        let q : List Sleeper = keep (notMine slot) (queueIn (x .row)) in
+        let w : List Waking = endedWith (pos 43) (mine slot) (queueIn (x .row)) in
+        let old : g ≡ (getD (setsIn (x .row)) slot noSet .generation + 1) % 65536 = eg ∙ ap (λ (u : Set). (u .generation + 1) % 65536) (sym (set-in (x .row) slot (rw es remove-slot))) in
+        let h : record { row = r′; adjustments = y .adjustments } ≡ hostOf (record { sets = set (setsIn (x .row)) slot (freeSet g); table = cleared (tableIn x) slot; queue = q }) =
+        ap₂ (λ (a : Row) (b : List ℤ). record { row = a; adjustments = b }) (ek ∙ ap₂ (λ (a : Host) (b : List Sleeper). withQueue (a .row) (keep (notMine slot) b)) there queue-there) (ap (λ (a : Host). a .adjustments) there)
+        ∙ set-host x k slot (freeSet g) (cleared (tableIn x) slot) q in
+        let u : told ≡ telling (pos 0) 0 0 (length w) = et ∙ ap (λ (n : ℕ). telling (pos 0) 0 0 n) (en ∙ ap (λ (a : List Sleeper). length (endedWith (pos 43) (mine slot) a)) queue-there) in
+        ap₂ (λ (a : Host) (b : List Waking). record { host = a; wakings = b; told = told }) h (el ∙ ap (λ (a : List Sleeper). listOf (endedWith (pos 43) (mine slot) a)) queue-there)
+        ∙ ap (λ (v : Told). record { host = hostOf (record { sets = set (setsIn (x .row)) slot (freeSet g); table = cleared (tableIn x) slot; queue = q }); wakings = listOf w; told = v }) u
+        ∙ rw (old, es) (ap afterOf (goes-on (stateIn x) _ z))

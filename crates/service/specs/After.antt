@@ -1,0 +1,69 @@
+-- What an event leaves and answers: the host, the list of wakings, and what it tells.
+use Prim.Native.Nat.{ℕ}
+use mathlib.Core.List.{List}
+use lib.ListN.{length}
+use lib.IntN.{ℤ}
+use Rattle.model.specs.declared.Waking.{Waking}
+use Rattle.model.specs.declared.Told.{Told}
+use Rattle.model.specs.declared.Queried.{Queried}
+use Rattle.model.specs.declared.Reply.{Reply}
+use Rattle.model.specs.declared.Reply.the-variants as reply
+use Rattle.model.specs.Events.{Event, create, operate, setValue, remove, signal, exit, query, Answer, Result}
+use Rattle.host.specs.Holding.{Host, hostOf, hostIn}
+use Rattle.wakings.specs.Wakings.{wakingsIn, listOf}
+
+pub record After : Type 0 where
+  pub host : Host
+  pub wakings : List Waking
+  pub told : Told
+
+-- what stands in what was lent, with what was returned
+abbrev pub afterIn : List ℕ → List ℤ → List ℕ → Told → After
+afterIn h adjustments list told = record { host = hostIn h adjustments; wakings = wakingsIn list; told = told }
+
+-- a code and a value with looks and a number of wakings
+abbrev pub telling : ℤ → ℕ → ℕ → ℕ → Told
+telling code value looks woken = record { code = code; value = value; looks = looks; woken = woken }
+
+-- .. of a result
+abbrev pub toldOf : Result → Told
+toldOf r = telling (r .answer .code) (r .answer .value) (r .looks) (length (r .wakings))
+
+abbrev pub afterOf : Result → After
+afterOf r = record { host = hostOf (r .state); wakings = listOf (r .wakings); told = toldOf r }
+
+-- a query's answer
+abbrev pub queriedOf : Answer → Queried
+queriedOf a =
+    record {
+      code = a .code;
+      value = a .value;
+      last = a .seen .last;
+      increase = a .seen .increase;
+      zero = a .seen .zero;
+      «increase_mask» = a .seen .increaseMask;
+      «zero_mask» = a .seen .zeroMask;
+    }
+
+-- ---- any event
+
+-- "an answer is all that an event returns beside state, looks and wakings": what a query shows, and what any other event tells
+abbrev pub replyOf : Event → Result → Reply
+replyOf (create count read alter) r = reply.Told (toldOf r)
+replyOf (operate p i bytes) r = reply.Told (toldOf r)
+replyOf (setValue i n v) r = reply.Told (toldOf r)
+replyOf (remove i) r = reply.Told (toldOf r)
+replyOf (signal p) r = reply.Told (toldOf r)
+replyOf (exit p) r = reply.Told (toldOf r)
+replyOf (query i n) r = reply.Seen (queriedOf (r .answer))
+
+pub record Replied : Type 0 where
+  pub host : Host
+  pub wakings : List Waking
+  pub reply : Reply
+
+abbrev pub repliedIn : List ℕ → List ℤ → List ℕ → Reply → Replied
+repliedIn h adjustments list r = record { host = hostIn h adjustments; wakings = wakingsIn list; reply = r }
+
+abbrev pub repliedOf : Event → Result → Replied
+repliedOf e r = record { host = hostOf (r .state); wakings = listOf (r .wakings); reply = replyOf e r }

@@ -1,0 +1,1 @@
+-- Nothing of its own: the checks promise the model's definitions.

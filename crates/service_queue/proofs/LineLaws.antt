@@ -1,0 +1,125 @@
+-- A row whose parts hold a queue: it is lined again after a change, one is taken out, and one joins.
+use Prim.Native.Nat.{ℕ, _+_, _*_, _-_, _<_}
+use mathlib.Core.Path.{_≡_, refl, sym, ap, ap₂, subst, _∙_}
+use mathlib.Core.List.{List, [], _∷_, _++_}
+use lib.ListN.{length, getD, take, replicate}
+use lib.Seq.{sets}
+use Rattle.model.specs.Limits.{processes, arrayBytes}
+use Rattle.model.specs.State.{Sleeper, noSleeper}
+use Rattle.model.specs.Marks.{named}
+use Rattle.model.specs.Waking.{without}
+use Rattle.host.specs.Parts.{Part, generations, counts, readers, alterers, values, lasts, asleep, order, sleepsAt, sizes, names, arrays, Row, with, put}
+use Rattle.host.specs.Holding.{withQueue, entry, withCall, queueIn}
+use Rattle.host.specs.Queue.{Room, Queued, Lined}
+use Rattle.host.proofs.PartLaws.{by-values}
+use Rattle.host.proofs.ProcessLaws.{Awake}
+use Rattle.host.proofs.QueueRows.{order-at, slot-read, size-read, emptied, taken, joinedBy, joined, queue-back}
+use Rattle.service_queue.specs.Seated.{movedUp}
+use Rattle.service_queue.proofs.MovingLaws.{order-moved}
+
+-- ---- a queue is put into a row
+
+pub queue-again : (r : Row) (p q : List Sleeper) → withQueue (withQueue r p) q ≡ withQueue r q
+queue-again r p q = by-values each
+  where
+    each : (x : Part) → withQueue (withQueue r p) q x ≡ withQueue r q x
+    each generations = refl
+    each counts = refl
+    each readers = refl
+    each alterers = refl
+    each values = refl
+    each lasts = refl
+    each asleep = refl
+    each order = refl
+    each sleepsAt = refl
+    each sizes = refl
+    each names = refl
+    each arrays = refl
+
+module _ {r r′ : Row} {q : List Sleeper} (e : r′ ≡ withQueue r q) (f : Queued q) where
+  -- the row shows it
+  pub shows : queueIn r′ ≡ q
+  shows = ap queueIn e ∙ queue-back r q f
+
+  pub lined-with : Lined r′
+  lined-with =
+      record {
+        holds = e ∙ sym (queue-again r q q) ∙ ap₂ withQueue (sym e) (sym shows);
+        fits = subst Queued (sym shows) f;
+      }
+
+-- ---- what a lined row says
+
+module _ {r : Row} (k : Lined r) where
+  abbrev queue : List Sleeper
+  queue = queueIn r
+
+  pub part-is : (p : Part) → r p ≡ withQueue r (queueIn r) p
+  part-is p = ap (λ (x : Row). x p) (k .holds)
+
+  pub asleep-is : getD (r asleep) 0 0 ≡ length (queueIn r)
+  asleep-is = ap (λ (l : List ℕ). getD l 0 0) (part-is asleep)
+
+  pub process-is : (i : ℕ) → i < length (queueIn r) → getD (r order) i 0 ≡ getD (queueIn r) i noSleeper .process
+  process-is i h = ap (λ (l : List ℕ). getD l i 0) (part-is order) ∙ order-at queue i h
+
+  pub slot-is : (i : ℕ) → i < length (queueIn r) → {p : ℕ} → p ≡ getD (r order) i 0 → getD (r sleepsAt) (entry p) 0 ≡ getD (queueIn r) i noSleeper .slot
+  slot-is i h e =
+      ap₂ (λ (l : List ℕ) (p : ℕ). getD l (entry p) 0) (part-is sleepsAt) (e ∙ process-is i h) ∙ slot-read queue (k .fits) i h r
+
+  size-is : (i : ℕ) → i < length (queueIn r) → {p : ℕ} → p ≡ getD (queueIn r) i noSleeper .process → getD (r sizes) (entry p) 0 ≡ length (getD (queueIn r) i noSleeper .array)
+  size-is i h e =
+      ap₂ (λ (l : List ℕ) (p : ℕ). getD l (entry p) 0) (part-is sizes) e ∙ size-read queue (k .fits) i h r
+
+-- ---- one is taken out: what its process has is cleared, and the order moves up
+
+abbrev clearedOf : ℕ → ℕ → Row → Row
+clearedOf p size r = withCall (with r arrays (sets (r arrays) (arrayBytes * entry p) (take arrayBytes (replicate size 0)))) p 0 0 0
+
+abbrev shortened : ℕ → ℕ → Row → Row
+shortened at last r = put (with r order (movedUp (r order) at last)) asleep 0 last
+
+module _ {r r₁ r₂ : Row} {p size : ℕ} (k : Lined r) (at : ℕ) (h : at < length (queueIn r)) (ep : p ≡ getD (r order) at 0) (es : size ≡ getD (r sizes) (entry p) 0)
+    (e₁ : r₁ ≡ with r arrays (sets (r arrays) (arrayBytes * entry p) (take arrayBytes (replicate size 0)))) (e₂ : r₂ ≡ withCall r₁ p 0 0 0) where
+  cleared : r₂ ≡ clearedOf p size r
+  cleared = e₂ ∙ ap (λ (x : Row). withCall x p 0 0 0) e₁
+
+  pub still-asleep : getD (r₂ asleep) 0 0 ≡ length (queueIn r)
+  still-asleep = ap (λ (x : Row). getD (x asleep) 0 0) cleared ∙ asleep-is k
+
+  moved-out : movedUp (r order) at (length (queueIn r) - 1) ≡ without (r order) at ++ 0 ∷ []
+  moved-out =
+      subst (λ (l : List ℕ). movedUp l at (length (queueIn r) - 1) ≡ without l at ++ 0 ∷ []) (sym (part-is k order)) (order-moved (queueIn r) at h (k .fits .few))
+
+  pub taken-out : {r₃ r₄ : Row} {last : ℕ} → last ≡ getD (r₂ asleep) 0 0 - 1 → r₃ ≡ with r₂ order (movedUp (r₂ order) at last) → r₄ ≡ put r₃ asleep 0 last
+      → r₄ ≡ withQueue r (without (queueIn r) at)
+  taken-out {r₃} {r₄} {last} el e₃ e₄ =
+      let q : List Sleeper = queueIn r in
+      let s : Sleeper = getD q at noSleeper in
+      let here : p ≡ s .process = ep ∙ process-is k at h in
+      let long : size ≡ length (s .array) = es ∙ size-is k at h here in
+      let few : last ≡ length q - 1 = el ∙ ap (λ (n : ℕ). n - 1) still-asleep in
+      e₄ ∙ ap (λ (x : Row). put x asleep 0 last) e₃
+      ∙ ap₂ (λ (x : Row) (n : ℕ). shortened at n x) (cleared ∙ ap₂ (λ (a b : ℕ). clearedOf a b r) here long) few
+      ∙ ap (λ (l : List ℕ). put (with (clearedOf (s .process) (length (s .array)) r) order l) asleep 0 (length q - 1)) moved-out
+      ∙ ap (emptied q (k .fits) at h) (k .holds)
+      ∙ taken q (k .fits) at h r
+
+-- ---- one joins
+
+module _ {r r₁ r₂ : Row} (k : Lined r) (s : Sleeper) (room : Room s) (a : Awake (s .process) (queueIn r)) (h : length (queueIn r) < processes)
+    (e₁ : r₁ ≡ with r arrays (sets (r arrays) (arrayBytes * entry (s .process)) (take arrayBytes (s .array)))) {mask : ℕ} (em : mask ≡ named s)
+    (e₂ : r₂ ≡ withCall r₁ (s .process) (s .slot) (length (s .array)) mask) where
+  stored : r₂ ≡ withCall (with r arrays (sets (r arrays) (arrayBytes * entry (s .process)) (take arrayBytes (s .array)))) (s .process) (s .slot) (length (s .array)) (named s)
+  stored = e₂ ∙ ap₂ (λ (x : Row) (m : ℕ). withCall x (s .process) (s .slot) (length (s .array)) m) e₁ em
+
+  pub before-it : getD (r₂ asleep) 0 0 ≡ length (queueIn r)
+  before-it = ap (λ (x : Row). getD (x asleep) 0 0) stored ∙ asleep-is k
+
+  pub joined-behind : {r₃ r₄ : Row} {n : ℕ} → n ≡ getD (r₂ asleep) 0 0 → r₃ ≡ put r₂ order n (s .process) → r₄ ≡ put r₃ asleep 0 (n + 1) → r₄ ≡ withQueue r (queueIn r ++ s ∷ [])
+  joined-behind {n = n} en e₃ e₄ =
+      let q : List Sleeper = queueIn r in
+      e₄ ∙ ap (λ (x : Row). put x asleep 0 (n + 1)) e₃
+      ∙ ap₂ (λ (x : Row) (m : ℕ). put (put x order m (s .process)) asleep 0 (m + 1)) stored (en ∙ before-it)
+      ∙ ap (joinedBy q (k .fits) s a room h) (k .holds)
+      ∙ joined q (k .fits) s a room h r

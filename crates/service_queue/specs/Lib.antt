@@ -1,0 +1,2 @@
+-- What the functions of the crate ask of the row, and what they leave.
+pub mod Seated

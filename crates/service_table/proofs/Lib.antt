@@ -1,0 +1,8 @@
+-- Laws that the proofs of several functions cite, and that callers cite.
+pub mod Lists
+pub mod LastLaws
+pub mod WrittenLaws
+pub mod LoopLaws
+pub mod ZeroLaws
+pub mod UndoLaws
+pub mod ExitLaws

@@ -1,0 +1,8 @@
+-- Laws that the proofs of the rules cite.
+pub mod LentLaws
+pub mod LookLaws
+pub mod SettleLaws
+pub mod WakingLoops
+pub mod QuickLoops
+pub mod SetLoops
+pub mod Marking

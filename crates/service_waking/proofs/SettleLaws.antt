@@ -1,0 +1,150 @@
+-- Settling an array: what is read of its sleeper, and that what is written is what it leaves.
+use Prim.Native.Nat.{ℕ, _+_, _^_, _≤_, _<_}
+use native.Mathlib.Omega.{arith}
+use mathlib.Core.Path.{_≡_, refl, sym, ap, ap₂, subst, _∙_}
+use mathlib.Core.Bool.{Bool, true, false, cond}
+use mathlib.Core.List.{List, [], _∷_}
+use lib.IntN.{ℤ, pos, natAbs}
+use lib.ListN.{length, getD, set}
+use Rattle.model.specs.declared.Copies.{Copies}
+use Rattle.model.specs.declared.Waking.{Waking}
+use Rattle.model.specs.declared.Operation.{Operation}
+use Rattle.model.specs.declared.Outcome.{Outcome}
+use Rattle.model.specs.declared.Outcome.the-variants.{Done, Sleep, Again, Range}
+use Rattle.model.specs.Limits.{semaphores}
+use Rattle.model.specs.State.{Table, Sleeper, noSleeper, row}
+use Rattle.model.specs.Operation.{operationsOf, isZero}
+use Rattle.model.specs.Judge.{judged, codeOf, finishes}
+use Rattle.model.specs.Look.{look, after, applied, valuesOf, adjustmentsOf}
+use Rattle.model.specs.Waking.{without, waking, finish}
+use Rattle.model.specs.Runs.{All, none, also}
+use Rattle.model.specs.Invariant.{Good, Fits}
+use Rattle.host.specs.Parts.{lasts, order, sleepsAt, Row}
+use Rattle.host.specs.Rows.{from, undoAt}
+use Rattle.host.specs.Holding.{Host, withQueue, withTable, entry, arrayIn, asleepIn, setsIn, queueIn, tableIn}
+use Rattle.host.specs.Queue.{Lined}
+use Rattle.host.proofs.QueueRows.{order-at, slot-read, array-read-back}
+use Rattle.judging.specs.Walk.{walkFrom}
+use Rattle.judging.specs.Named.{alteredBy}
+use Rattle.service_table.specs.Numbered.{Numbered}
+use Rattle.service_table.specs.Written.{tabled, written}
+use Rattle.service_table.proofs.WrittenLaws.{sized-good, written-applied}
+use Rattle.service_waking.specs.Lent.{Lent, worldIn, lentWith, Ready, JudgedAs, Settleable}
+use Rattle.service_waking.proofs.LookLaws.{values-read, undo-read, judged-as, judged-where}
+use Rattle.service_waking.proofs.LentLaws.{queue-aside, ready-lined, lined-tabled, world-queue, world-table, asleep-all, the-fit, the-numbered, finish-lent}
+
+module _ (x : Host) (at : ℕ) (k : Settleable x at) where
+  abbrev sleeper : Sleeper
+  sleeper = getD (queueIn (x .row)) at noSleeper
+
+  pub settled-process : getD (x .row order) at 0 ≡ getD (queueIn (x .row)) at noSleeper .process
+  settled-process = ap (λ (y : Row). getD (y order) at 0) (k .lined .holds) ∙ order-at (queueIn (x .row)) at (k .there)
+
+  pub settled-slot : getD (x .row sleepsAt) (entry (getD (x .row order) at 0)) 0 ≡ getD (queueIn (x .row)) at noSleeper .slot
+  settled-slot =
+      ap (λ (p : ℕ). getD (x .row sleepsAt) (entry p) 0) settled-process
+      ∙ ap (λ (y : Row). getD (y sleepsAt) (entry (sleeper .process)) 0) (k .lined .holds)
+      ∙ slot-read (queueIn (x .row)) (k .lined .fits) at (k .there) (x .row)
+
+  pub settled-array : arrayIn (x .row) (getD (x .row order) at 0) ≡ getD (queueIn (x .row)) at noSleeper .array
+  settled-array =
+      ap (arrayIn (x .row)) settled-process ∙ ap (λ (y : Row). arrayIn y (sleeper .process)) (k .lined .holds)
+      ∙ array-read-back (queueIn (x .row)) (k .lined .fits) at (k .there) (x .row)
+
+  -- a look: the copies that were read, walked over
+  module _ {process slot : ℕ} {bytes values : List ℕ} {undo : List ℤ} (ep : process ≡ getD (x .row order) at 0) (es : slot ≡ getD (x .row sleepsAt) (entry process) 0)
+      (eb : bytes ≡ arrayIn (x .row) process) (ev : values ≡ from 0 semaphores (row slot) (tableIn x .values)) (eu : undo ≡ from (pos 0) semaphores (undoAt process slot) (tableIn x .adjustments))
+      (o : Outcome) (i : ℕ) (c : Copies) (e : judged o i c ≡ walkFrom (operationsOf bytes) (record { values = values; adjustments = undo }) 0) where
+    p-is : process ≡ sleeper .process
+    p-is = ep ∙ settled-process
+
+    s-is : slot ≡ sleeper .slot
+    s-is = es ∙ ap (λ (n : ℕ). getD (x .row sleepsAt) (entry n) 0) ep ∙ settled-slot
+
+    b-is : bytes ≡ sleeper .array
+    b-is = eb ∙ ap (arrayIn (x .row)) ep ∙ settled-array
+
+    v-is : values ≡ valuesOf (tableIn x) (sleeper .slot)
+    v-is = ev ∙ ap (λ (n : ℕ). from 0 semaphores (row n) (tableIn x .values)) s-is ∙ values-read (tableIn x) (sleeper .slot) (k .good .values) (k .fits .slot)
+
+    u-is : undo ≡ adjustmentsOf (tableIn x) (sleeper .process) (sleeper .slot)
+    u-is =
+        eu ∙ ap₂ (λ (m n : ℕ). from (pos 0) semaphores (undoAt m n) (tableIn x .adjustments)) p-is s-is
+        ∙ undo-read (tableIn x) (sleeper .process) (sleeper .slot) (k .good .adjustments) (k .fits .process) (k .fits .last) (k .fits .slot)
+
+    pub looked : JudgedAs (tableIn x) (getD (queueIn (x .row)) at noSleeper) o c
+    looked = judged-as (tableIn x) sleeper bytes values undo o i c b-is v-is u-is e
+
+    pub looked-where : i ≡ look (tableIn x) (getD (queueIn (x .row)) at noSleeper) .position
+    looked-where = judged-where (tableIn x) sleeper bytes values undo o i c b-is v-is u-is e
+
+  -- done: the copies are written
+  pub settle-done : (c : Copies) {o : Outcome} {process slot mask : ℕ} {bytes : List ℕ} {y : Host} → o ≡ Done → length (c .values) ≡ semaphores → length (c .adjustments) ≡ semaphores
+      → process ≡ getD (x .row order) at 0 → slot ≡ getD (x .row sleepsAt) (entry process) 0 → bytes ≡ arrayIn (x .row) process → mask ≡ alteredBy 0 (operationsOf bytes)
+      → y ≡ written x process slot mask c → y ≡ tabled x (after (tableIn x) (getD (queueIn (x .row)) at noSleeper) o c)
+  unfolding after
+  settle-done c {o} {process} {slot} {mask} {bytes} eo lv lu ep es eb em ey =
+      let p : process ≡ sleeper .process = ep ∙ settled-process in
+      let s : slot ≡ sleeper .slot = es ∙ ap (λ (n : ℕ). getD (x .row sleepsAt) (entry n) 0) ep ∙ settled-slot in
+      let b : bytes ≡ sleeper .array = eb ∙ ap (arrayIn (x .row)) ep ∙ settled-array in
+      let m : mask ≡ alteredBy 0 (operationsOf (sleeper .array)) = em ∙ ap (λ (l : List ℕ). alteredBy 0 (operationsOf l)) b in
+      ey ∙ ap₂ (λ (u v : ℕ). written x u v mask c) p s
+      ∙ written-applied x (sized-good x (k .good)) sleeper (k .fits .slot) (record { least = k .fits .process; most = k .fits .last }) (k .numbered) c lv lu mask m
+      ∙ rw eo
+
+-- what is ready can be settled
+pub settleable : (x : Lent) → Ready x → (at : ℕ) → at < length (worldIn x .queue) → Settleable (x .host) at
+settleable x r at h =
+    let a : at < asleepIn (x .host .row) = omega (arith, h, asleep-all x r) in
+    record {
+      lined = ready-lined x r;
+      there = subst (λ (q : List Sleeper). at < length q) (world-queue x) h;
+      fits = subst (λ (q : List Sleeper). Fits (setsIn (x .host .row)) (getD q at noSleeper)) (world-queue x) (the-fit x r at a);
+      numbered = subst (λ (q : List Sleeper). Numbered (getD q at noSleeper .array)) (world-queue x) (the-numbered x r at a);
+      good = subst Good (world-table x) (r .calm .good);
+    }
+
+-- the code that is told
+pub ending-is : (o : Outcome) → finishes o ≡ true → pos (natAbs (codeOf o)) ≡ codeOf o
+unfolding finishes codeOf
+ending-is Done f = refl
+ending-is Sleep f = let z : _≡_ {A = ℕ} 0 1 = cc in absurd (omega arith)
+ending-is Again f = refl
+ending-is Range f = refl
+
+-- ---- the sleeper at a position is finished
+
+module _ (x : Lent) (r : Ready x) (at : ℕ) (there : at < length (worldIn x .queue)) (o : Outcome) (c : Copies)
+    {h₁ : Host} (e₁ : h₁ ≡ tabled (x .host) (after (tableIn (x .host)) (getD (queueIn (x .host .row)) at noSleeper) o c)) where
+  abbrev settled : Table
+  settled = after (tableIn (x .host)) (getD (queueIn (x .host .row)) at noSleeper) o c
+
+  row-there : h₁ .row ≡ withTable (x .host .row) (after (tableIn (x .host)) (getD (queueIn (x .host .row)) at noSleeper) o c)
+  row-there = ap (λ (y : Host). y .row) e₁
+
+  queue-there : queueIn (h₁ .row) ≡ queueIn (x .host .row)
+  queue-there = ap queueIn row-there ∙ queue-aside (x .host .row) settled
+
+  pub finish-lined : Lined (h₁ .row)
+  finish-lined = subst Lined (sym row-there) (lined-tabled x r settled)
+
+  pub finish-there : at < length (queueIn (h₁ .row))
+  finish-there = subst (λ (q : List Sleeper). at < length q) (world-queue x ∙ sym queue-there) there
+
+  pub finish-all : JudgedAs (worldIn x .table) (getD (worldIn x .queue) at noSleeper) o c → finishes o ≡ true
+      → {process code : ℕ} {r₂ : Row} {ws : List Waking} → process ≡ getD (x .host .row order) at 0 → r₂ ≡ withQueue (h₁ .row) (without (queueIn (h₁ .row)) at) → code ≡ natAbs (codeOf o)
+      → ws ≡ set (x .wakings) (x .woken) (waking process (pos code))
+      → record { host = record { row = r₂; adjustments = h₁ .adjustments }; wakings = ws; woken = x .woken + 1 } ≡ lentWith x (finish (worldIn x) at)
+  unfolding worldIn
+  finish-all j f {process} {code} ep er ec ew =
+      let h : at < asleepIn (x .host .row) = omega (arith, there, asleep-all x r) in
+      finish-lent x r at h o c j _ (ap pos ec ∙ ending-is o f)
+      (er ∙ ap₂ (λ (a : Row) (q : List Sleeper). withQueue a (without q at)) row-there queue-there)
+      (ap (λ (y : Host). y .adjustments) e₁)
+      (ew ∙ ap (λ (p : ℕ). set (x .wakings) (x .woken) (waking p (pos code))) ep)
+      refl
+
+-- a look at what is lent is a look at its world
+pub judged-in : (x : Lent) (at : ℕ) {o : Outcome} {c : Copies} → JudgedAs (tableIn (x .host)) (getD (queueIn (x .host .row)) at noSleeper) o c → JudgedAs (worldIn x .table) (getD (worldIn x .queue) at noSleeper) o c
+unfolding worldIn
+judged-in x at j = j

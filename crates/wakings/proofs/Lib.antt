@@ -1,0 +1,2 @@
+-- Laws of the definitions, that a caller goes by.
+pub mod ListLaws

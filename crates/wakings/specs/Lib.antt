@@ -1,0 +1,2 @@
+-- A lent list of bytes as wakings.
+pub mod Wakings
