@@ -5,5 +5,7 @@ use model::Engine;
 fn main() {
     let mut space = io::large_buffer();
     let read = io::read_full(libc::STDIN_FILENO, &mut space);
-    console::print(Engine::Plain, &space[..read]);
+    let mut host = host::fresh();
+    let mut adjustments = host::no_adjustments();
+    console::print(&mut host, &mut adjustments, Engine::Plain, &space[..read]);
 }

@@ -4,42 +4,58 @@ use console::print;
 use model::Engine;
 
 fn main() {
+    let mut host = host::fresh();
+    let mut adjustments = host::no_adjustments();
     // the whole example of 44 bytes
     print(
+        &mut host,
+        &mut adjustments,
         Engine::Quick,
         b"\x03\x00\x0E\x00\x04\x00\x12\x00\x0D\x00\x1F\x00\x0D\x00\x01\x01\xFF\xFF\x02\x01\x00\x00\x00\x00\x01\x00\x00\xFF\xFF\x00\x00\x02\x02\x00\x00\x00\x00\x01\x00\x00\x01\x00\x00\x00",
     );
     // two zero bytes
-    print(Engine::Quick, b"\x00\x00");
+    print(&mut host, &mut adjustments, Engine::Quick, b"\x00\x00");
     // no head
-    print(Engine::Quick, b"");
+    print(&mut host, &mut adjustments, Engine::Quick, b"");
     // the example's table, cut off
     print(
+        &mut host,
+        &mut adjustments,
         Engine::Quick,
         b"\x03\x00\x0E\x00\x04\x00\x12\x00\x0D\x00\x1F\x00\x0D",
     );
     // the first offset one too high
     print(
+        &mut host,
+        &mut adjustments,
         Engine::Quick,
         b"\x03\x00\x0F\x00\x04\x00\x12\x00\x0D\x00\x1F\x00\x0D\x00\x01\x01\xFF\xFF\x02\x01\x00\x00\x00\x00\x01\x00\x00\xFF\xFF\x00\x00\x02\x02\x00\x00\x00\x00\x01\x00\x00\x01\x00\x00\x00",
     );
     // a byte behind the last body
     print(
+        &mut host,
+        &mut adjustments,
         Engine::Quick,
         b"\x03\x00\x0E\x00\x04\x00\x12\x00\x0D\x00\x1F\x00\x0D\x00\x01\x01\xFF\xFF\x02\x01\x00\x00\x00\x00\x01\x00\x00\xFF\xFF\x00\x00\x02\x02\x00\x00\x00\x00\x01\x00\x00\x01\x00\x00\x00\x00",
     );
     // a create, and a body of kind 8
     print(
+        &mut host,
+        &mut adjustments,
         Engine::Quick,
         b"\x02\x00\x0A\x00\x04\x00\x0E\x00\x02\x00\x01\x01\xFF\xFF\x08\x00",
     );
     // a create, and an empty body
     print(
+        &mut host,
+        &mut adjustments,
         Engine::Quick,
         b"\x02\x00\x0A\x00\x04\x00\x0E\x00\x00\x00\x01\x01\xFF\xFF",
     );
     // a create, and an operate one byte too long
     print(
+        &mut host,
+        &mut adjustments,
         Engine::Quick,
         b"\x02\x00\x0A\x00\x04\x00\x0E\x00\x0E\x00\x01\x01\xFF\xFF\x02\x01\x00\x00\x00\x00\x01\x00\x00\x01\x00\x00\x00\x00",
     );

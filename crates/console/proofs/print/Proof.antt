@@ -10,18 +10,17 @@ use borrow.Author.Needs.{needs}
 use Rattle.model.specs.State.{freshState}
 use Rattle.host.specs.Parts.{Row}
 use Rattle.host.specs.Holding.{Host, hostOf, hostIn}
-use Rattle.replaying.specs.declared.Progress.{Progress}
 use Rattle.replaying.specs.Replay.{Stage, Wrote, stageIn}
 use Rattle.replaying.proofs.Whole.{Through, through-start, piece-moves, through-piece, through-all}
 use Rattle.console.proofs.print.Statement.{statement}
 use Rattle.console.proofs.print.Tie as tie
 
 abbrev Inv-loop : tie.InvT-loop
-Inv-loop engine file host₀ adjustments₀ out₀ progress₀ host adjustments out progress =
+Inv-loop host₀ adjustments₀ engine file out₀ progress₀ host adjustments out progress =
     Through engine file (stageIn (hostIn host adjustments) progress) × (65536 ≡ length out)
 
 abbrev μ-loop : tie.MeasureT-loop
-μ-loop engine file host₀ adjustments₀ out₀ progress₀ host adjustments out progress = progress .left
+μ-loop host₀ adjustments₀ engine file out₀ progress₀ host adjustments out progress = progress .left
 
 -- how far a call has come, by its equation
 moved : {w v : Wrote} → w ≡ v → w .stage ≡ v .stage
@@ -98,12 +97,8 @@ loop-again c =
 
 -- ---- behind the loop
 
--- a progress whose host is that of the stage it makes
-alone : {x : Host} (p : Progress) {s : Stage} → stageIn x p ≡ s → stageIn (s .host) p ≡ s
-alone p e = ap (λ (s : Stage). stageIn (s .host) p) (sym e) ∙ e
-
 returns : tie.Need-returns Inv-loop μ-loop
-returns c = alone (c .before .before .loop .progress) (through-all _ _ (c .before .before .loop .inv .0) (c .if1 .left))
+returns c = through-all _ _ (c .before .before .loop .inv .0) (c .if1 .left)
 
 pub print-spec : {M : Type 1} → statement M
 print-spec =
