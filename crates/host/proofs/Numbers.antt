@@ -1,13 +1,12 @@
 -- Numbers in a row of bytes: reading one, writing one, and what a write leaves alone.
-use Prim.Native.Nat.{ℕ, zero, suc, _+_, _*_, _-_, _/_, _%_, _^_, _≤_, _<_}
+use Prim.Native.Nat.{ℕ, zero, suc, _+_, _*_, _/_, _%_, _^_, _≤_, _<_}
 use native.Mathlib.Nat.{not-suc-le-zero, le-of-suc-le-suc, mul-zero, mul-suc, add-zero, pow-suc}
 use native.Mathlib.Numerals.{add-one}
 use native.Mathlib.Omega.{arith}
 use mathlib.Core.Path.{_≡_, refl, sym, ap, ap₂, subst, _∙_}
-use mathlib.Core.Logic.{_≢_}
 use mathlib.Core.List.{List, [], _∷_}
 use lib.ListN.{length, getD, set, length-set, List·getD-eq-default}
-use lib.Seq.{getD-set-other, getD-set-same, sets, length-sets, set-out}
+use lib.Seq.{getD-set-other, getD-set-same, sets, length-sets}
 use Rattle.host.specs.Parts.{numberAt, bytesOf, numbersFrom}
 
 -- two rows of bytes agree from a place to another

@@ -9,13 +9,60 @@ use mathlib.Core.List.{List, [], _∷_}
 use borrow.Author.Tests.{eqb-true, eqb-false, eq-eqb, ltb-true, ltb-false}
 use lib.Dec.{eqb, ltb, lit<}
 use lib.ListN.{length, getD, set}
-use lib.Seq.{sets, set-out, set-set}
-use Rattle.host.specs.Parts.{Part, generations, counts, readers, alterers, values, lasts, asleep, order, sleepsAt, sizes, names, arrays, number, Shape, shape, table, Place, placeFrom, place, behind, hostBytes, numberAt, bytesOf, numbersFrom, Row, rowIn, with, put}
+use lib.Seq.{sets, set-out}
+use Rattle.host.specs.Parts.{Part, generations, counts, readers, alterers, values, lasts, asleep, order, sleepsAt, sizes, names, arrays, number, Shape, shape, table, placeFrom, place, behind, hostBytes, numberAt, bytesOf, Row, rowIn, with, put}
 use Rattle.host.proofs.Numbers.{Wrote, stored, number-stored, length-numbers, numbers-at, numbers-beyond, numbers-set, under, over}
 
 -- a function is known by its values
 pub by-values : {A B : Type 0} {f g : A → B} → ((x : A) → f x ≡ g x) → f ≡ g
 by-values e = λ i x. e x i
+
+-- ---- the parts in three groups: of the sets, of the table, of the queue
+
+pub record SetParts : Type 0 where
+  pub generations : List ℕ
+  pub counts : List ℕ
+  pub readers : List ℕ
+  pub alterers : List ℕ
+
+pub record TableParts : Type 0 where
+  pub values : List ℕ
+  pub lasts : List ℕ
+
+pub record QueueParts : Type 0 where
+  pub asleep : List ℕ
+  pub order : List ℕ
+  pub sleepsAt : List ℕ
+  pub sizes : List ℕ
+  pub names : List ℕ
+  pub arrays : List ℕ
+
+abbrev pub setParts : Row → SetParts
+setParts r = record { generations = r generations; counts = r counts; readers = r readers; alterers = r alterers }
+
+abbrev pub tableParts : Row → TableParts
+tableParts r = record { values = r values; lasts = r lasts }
+
+abbrev pub queueParts : Row → QueueParts
+queueParts r = record { asleep = r asleep; order = r order; sleepsAt = r sleepsAt; sizes = r sizes; names = r names; arrays = r arrays }
+
+-- a row is known by its three groups
+pub by-groups : (r s : Row) → setParts r ≡ setParts s → tableParts r ≡ tableParts s → queueParts r ≡ queueParts s → r ≡ s
+by-groups r s a b c = by-values each
+  where
+    each : (p : Part) → r p ≡ s p
+    each generations = ap (λ (g : SetParts). g .generations) a
+    each counts = ap (λ (g : SetParts). g .counts) a
+    each readers = ap (λ (g : SetParts). g .readers) a
+    each alterers = ap (λ (g : SetParts). g .alterers) a
+    each values = ap (λ (g : TableParts). g .values) b
+    each lasts = ap (λ (g : TableParts). g .lasts) b
+    each asleep = ap (λ (g : QueueParts). g .asleep) c
+    each order = ap (λ (g : QueueParts). g .order) c
+    each sleepsAt = ap (λ (g : QueueParts). g .sleepsAt) c
+    each sizes = ap (λ (g : QueueParts). g .sizes) c
+    each names = ap (λ (g : QueueParts). g .names) c
+    each arrays = ap (λ (g : QueueParts). g .arrays) c
 
 pub less-or-not : (i m : ℕ) → (i < m) ⊎ (m ≤ i)
 less-or-not i m = go (ltb i m) refl

@@ -3,9 +3,8 @@ use Prim.Native.Nat.{ℕ, zero, suc, _+_, _*_, _-_, _≤_, _<_}
 use native.Mathlib.Nat.{not-suc-le-zero, le-of-suc-le-suc}
 use native.Mathlib.Omega.{arith}
 use mathlib.Core.Path.{_≡_, refl, sym, ap, ap₂, subst, _∙_}
-use mathlib.Core.Logic.{_≢_}
 use mathlib.Core.List.{List, [], _∷_, _++_, map, append-assoc}
-use lib.ListN.{length, getD, set, take, drop, replicate, length-append, length-replicate, length-map, replicate-append-replicate, List·getD-append, List·getD-map}
+use lib.ListN.{length, getD, set, take, replicate, length-append, length-replicate, length-map, replicate-append-replicate, List·getD-append, List·getD-map}
 use lib.Seq.{sets, paste, take-at, take-all, set-append-seam, append-snoc, ext-getD}
 use Rattle.model.specs.declared.Set.{Set}
 use Rattle.model.specs.Limits.{processes, arrayBytes}
@@ -17,8 +16,8 @@ use Rattle.model.specs.Invariant.{Fits, Distinct}
 use Rattle.model.proofs.Lists.{all-map, all-at, all-without, length-without}
 use Rattle.model.proofs.QueueLaws.{distinct-without, others-without, fits-few}
 use Rattle.host.specs.Parts.{Part, generations, counts, readers, alterers, values, lasts, asleep, order, sleepsAt, sizes, names, arrays, Row, with, put}
-use Rattle.host.specs.Holding.{ofProcess, byProcess, blocksFrom, orderOf, theSlot, theSize, withQueue, entry, withCall, arrayIn, sleeperIn, asleepIn, queueIn}
-use Rattle.host.specs.Queue.{Room, Queued, Lined}
+use Rattle.host.specs.Holding.{byProcess, blocksFrom, orderOf, theSlot, theSize, withQueue, entry, withCall, arrayIn, sleeperIn, queueIn}
+use Rattle.host.specs.Queue.{Room, Queued}
 use Rattle.host.proofs.PartLaws.{by-values}
 use Rattle.host.proofs.RowLaws.{sets-paste}
 use Rattle.host.proofs.ProcessLaws.{Awake, of-awake, of-none, of-first, of-before, of-without, of-own, of-process, by-changed, length-arrays, arrays-cleared, arrays-stored, array-read, arrayOf}

@@ -4,9 +4,9 @@ use native.Mathlib.Nat.{add-zero}
 use native.Mathlib.Numerals.{add-one}
 use native.Mathlib.Omega.{arith}
 use mathlib.Core.Path.{_≡_, refl, sym, ap, ap₂, _∙_}
-use mathlib.Core.List.{List, [], _∷_, _++_, append-assoc}
-use lib.ListN.{length, getD, set, take, drop, replicate, length-set, length-append, List·getD-eq-default}
-use lib.Seq.{sets, sets-eq, paste, slice, slice-cons, slice-empty, set-out, take-suc, take-suc-set, take-all, take-length, length-take-le, append-snoc}
+use mathlib.Core.List.{List, [], _∷_, _++_}
+use lib.ListN.{length, getD, set, take, drop, replicate, length-set, List·getD-eq-default}
+use lib.Seq.{sets, sets-eq, paste, slice, slice-cons, slice-empty, set-out, take-suc, take-suc-set, take-all, length-take-le}
 use Rattle.host.specs.Rows.{from}
 
 module _ {A : Type 0} where

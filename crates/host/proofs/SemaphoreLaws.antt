@@ -5,20 +5,15 @@ use native.Mathlib.Omega.{arith}
 use mathlib.Core.Path.{_≡_, refl, sym, ap, ap₂, _∙_}
 use mathlib.Core.Logic.{_≢_}
 use mathlib.Core.Bool.{Bool, true, false, not, cond}
-use mathlib.Core.List.{List, [], _∷_}
+use mathlib.Core.List.{List, _∷_}
 use borrow.Author.Tests.{eq-eqb, ne-eqb, eqb-true, eqb-false}
 use lib.Bits.{bitAnd, bitOr}
 use lib.Dec.{eqb}
 use lib.ListN.{length, getD, set, replicate, length-set}
 use lib.Pow.{pow-lt}
 use lib.Seq.{sets, set-comm, set-set, set-getD, set-out}
-use Rattle.model.specs.declared.Operation.{Operation}
-use Rattle.model.specs.Limits.{semaphores}
 use Rattle.model.specs.State.{row, freshState}
-use Rattle.model.specs.Operation.{hasBit, isZero}
-use Rattle.model.specs.Look.{lastsAfter}
-use Rattle.model.specs.Runs.{All}
-use Rattle.model.proofs.Lists.{first, rest}
+use Rattle.model.specs.Operation.{hasBit}
 use Rattle.model.proofs.Bits.{bit-zero, bit-or-same, bit-or-other, hasBit-bit}
 use Rattle.host.specs.Parts.{Part, generations, counts, readers, alterers, values, lasts, asleep, order, sleepsAt, sizes, names, arrays, place, hostBytes, numberAt, bytesOf, numbersFrom, Row, rowIn, with, put}
 use Rattle.host.specs.Rows.{maskedFrom, masked}
@@ -169,12 +164,7 @@ zero-row = by-values (λ p. zero-numbers (replicate hostBytes 0) (zeros hostByte
     each names = refl
     each arrays = refl
 
--- ---- the last processes after an array
-
--- the mask m, and in it the numbers of those operations whose amount is not zero
-unfoldable pub alteredBy : ℕ → List Operation → ℕ
-alteredBy m [] = m
-alteredBy m (o ∷ os) = alteredBy (cond (isZero (o .amount)) m (bitOr m (2 ^ (o .number)))) os
+-- ---- masks of places
 
 -- another bit of a mask
 other-bit : (m k j : ℕ) → j ≢ k → hasBit (bitOr m (2 ^ k)) (2 ^ j) ≡ hasBit m (2 ^ j)
@@ -237,20 +227,3 @@ module _ (x : ℕ) where
       rw (e, y)
       (ap (λ (b : Bool). maskedFrom (j + 1) (bitOr m (2 ^ (j + 1 + d))) x n (at + 1) (cond b (set l at x) l)) (other-bit m (j + 1 + d) j (λ (q : j ≡ j + 1 + d). omega arith))
       ∙ masked-or (j + 1) m n (at + 1) (cond (hasBit m (2 ^ j)) (set l at x) l) d (le-of-suc-le-suc h))
-
-lasts-gathered : (l : List ℕ) (slot p m : ℕ) (os : List Operation) → All (λ (o : Operation). o .number < semaphores) os
-    → masked (alteredBy m os) p semaphores (row slot) l ≡ lastsAfter (masked m p semaphores (row slot) l) slot p os
-unfolding alteredBy lastsAfter
-lasts-gathered l slot p m [] a = refl
-lasts-gathered l slot p m (o ∷ os) a =
-    lasts-gathered l slot p (cond (isZero (o .amount)) m (bitOr m (2 ^ (o .number)))) os (rest a)
-    ∙ ap (λ (r : List ℕ). lastsAfter r slot p os) (go (isZero (o .amount)))
-  where
-    go : (b : Bool) → masked (cond b m (bitOr m (2 ^ (o .number)))) p semaphores (row slot) l
-        ≡ cond b (masked m p semaphores (row slot) l) (set (masked m p semaphores (row slot) l) (row slot + o .number) p)
-    go true = refl
-    go false = let z : 0 + o .number ≡ o .number = omega arith in rw z at (masked-or p 0 m semaphores (row slot) l (o .number) (first a))
-
-pub masked-lasts : (l : List ℕ) (slot p : ℕ) (os : List Operation) → All (λ (o : Operation). o .number < semaphores) os
-    → masked (alteredBy 0 os) p semaphores (row slot) l ≡ lastsAfter l slot p os
-masked-lasts l slot p os a = lasts-gathered l slot p 0 os a ∙ ap (λ (r : List ℕ). lastsAfter r slot p os) (masked-empty p 0 semaphores (row slot) l)

@@ -1,18 +1,17 @@
 -- The parts of the row that hold the sets: the set in a slot, and the list of all.
-use Prim.Native.Nat.{ℕ, zero, suc, _+_, _≤_, _<_}
+use Prim.Native.Nat.{ℕ, zero, suc, _+_, _<_}
 use native.Mathlib.Nat.{not-suc-le-zero, le-of-suc-le-suc, add-zero}
 use native.Mathlib.Omega.{arith}
-use mathlib.Core.Path.{_≡_, refl, sym, ap, ap₂, _∙_}
-use mathlib.Core.Logic.{_≢_, ⊎-elim}
-use mathlib.Core.List.{List, [], _∷_, map}
-use lib.ListN.{length, getD, set, length-set, length-map, List·getD-map}
+use mathlib.Core.Path.{_≡_, refl, sym, ap, _∙_}
+use mathlib.Core.Logic.{_≢_}
+use mathlib.Core.List.{List, map}
+use lib.ListN.{length, getD, List·getD-map}
 use lib.Seq.{getD-set-same, getD-set-other, ext-getD}
 use Rattle.model.specs.declared.Set.{Set}
 use Rattle.model.specs.Limits.{slots}
-use Rattle.model.specs.State.{Table, Sleeper, noSet}
-use Rattle.host.specs.Parts.{Part, generations, counts, readers, alterers, values, lasts, asleep, order, sleepsAt, sizes, names, arrays, Row, with, put}
+use Rattle.model.specs.State.{noSet}
+use Rattle.host.specs.Parts.{generations, counts, readers, alterers, Row}
 use Rattle.host.specs.Holding.{setAt, withSet, setsFrom, setsIn}
-use Rattle.host.proofs.PartLaws.{by-values}
 
 pub length-sets-in : (n : ℕ) (r : Row) (slot : ℕ) → length (setsFrom r slot n) ≡ n
 unfolding setsFrom

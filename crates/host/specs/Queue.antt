@@ -1,5 +1,5 @@
 -- A queue that fits the row, and a row whose parts hold the queue that they show.
-use Prim.Native.Nat.{ℕ, _≤_}
+use Prim.Native.Nat.{_≤_}
 use mathlib.Core.Path.{_≡_}
 use mathlib.Core.List.{List}
 use lib.ListN.{length}

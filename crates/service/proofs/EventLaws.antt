@@ -3,33 +3,32 @@ use Prim.Native.Nat.{ℕ, zero, suc, _≤_}
 use native.Mathlib.Omega.{arith}
 use mathlib.Core.Path.{_≡_, refl, sym, ap, ap₂, subst, _∙_}
 use mathlib.Core.List.{List, []}
-use lib.IntN.{ℤ, pos}
+use lib.IntN.{pos}
 use lib.ListN.{length}
-use Rattle.model.specs.declared.Set.{Set}
 use Rattle.model.specs.declared.Engine.{Engine}
 use Rattle.model.specs.declared.Told.{Told}
 use Rattle.model.specs.declared.Waking.{Waking}
-use Rattle.model.specs.Limits.{slots, semaphores, processes, allSemaphores, allAdjustments}
+use Rattle.model.specs.Limits.{semaphores, processes}
 use Rattle.model.specs.State.{Table, Sleeper, State}
 use Rattle.model.specs.Waking.{World, Ended, waker}
-use Rattle.model.specs.Events.{Result, refused, checked, wokenAs, world, treatFrom}
+use Rattle.model.specs.Events.{Result, checked, wokenAs, world}
 use Rattle.model.specs.Runs.{All}
 use Rattle.model.specs.Invariant.{Good, Fits, Distinct, Invariant, Calm, countAt}
 use Rattle.model.proofs.Lists.{all-map}
 use Rattle.model.proofs.Engines.{reached}
 use Rattle.model.proofs.LookLaws.{count-fits}
-use Rattle.host.specs.Parts.{Part, generations, counts, readers, alterers, values, lasts, asleep, order, sleepsAt, sizes, names, arrays, Row}
-use Rattle.host.specs.Holding.{Host, withQueue, withTable, hostOf, hostWith, setsIn, queueIn, tableIn, stateIn, Held}
+use Rattle.host.specs.Parts.{Row}
+use Rattle.host.specs.Holding.{Host, withTable, hostOf, hostWith, setsIn, queueIn, stateIn, Held}
 use Rattle.host.specs.Queue.{Queued, Lined}
-use Rattle.host.proofs.PartLaws.{by-values}
+use Rattle.host.proofs.PartLaws.{setParts, queueParts, by-groups}
 use Rattle.host.proofs.QueueRows.{queued}
 use Rattle.wakings.specs.Wakings.{listOf}
 use Rattle.service_table.specs.Written.{tabled}
 use Rattle.service_queue.specs.Seated.{Seated}
 use Rattle.service_waking.specs.declared.Tally.{Tally}
-use Rattle.service_waking.specs.Lent.{Lent, Left, worldIn, lentWith, leftWith, unwoken, Ready, treated, treatedFrom}
+use Rattle.service_waking.specs.Lent.{Lent, Left, worldIn, lentWith, leftWith, unwoken, Ready, treated}
 use Rattle.service_waking.proofs.LentLaws.{queue-over, table-under, with-ready, world-back}
-use Rattle.service.specs.After.{After, telling, afterOf}
+use Rattle.service.specs.After.{telling, afterOf}
 
 -- ---- a host that holds a state
 
@@ -43,25 +42,12 @@ module _ (x : Host) (k : Held x) where
   pub held-queued : Queued (queueIn (x .row))
   held-queued = queued (queueIn (x .row)) (held-invariant .fits) (held-invariant .distinct)
 
-  at : (p : Part) → x .row p ≡ hostOf (stateIn x) .row p
-  at p = ap (λ (y : Host). y .row p) (k .holds)
-
   pub held-lined : Lined (x .row)
-  held-lined = record { holds = by-values each; fits = held-queued }
-    where
-      each : (p : Part) → x .row p ≡ withQueue (x .row) (queueIn (x .row)) p
-      each generations = refl
-      each counts = refl
-      each readers = refl
-      each alterers = refl
-      each values = refl
-      each lasts = refl
-      each asleep = at asleep
-      each order = at order
-      each sleepsAt = at sleepsAt
-      each sizes = at sizes
-      each names = at names
-      each arrays = at arrays
+  held-lined =
+      record {
+        holds = by-groups _ _ refl refl (ap (λ (y : Host). queueParts (y .row)) (k .holds));
+        fits = held-queued;
+      }
 
   pub held-seated : Seated (x .row)
   held-seated = record { lined = held-lined; some = all-map (λ s f. f .some) (held-invariant .fits) }
@@ -72,21 +58,7 @@ module _ (x : Host) (k : Held x) where
 
   -- another table and queue, with the sets as they are
   pub host-of : (t : Table) (q : List Sleeper) → hostWith x t q ≡ hostOf (record { sets = setsIn (x .row); table = t; queue = q })
-  host-of t q = ap (λ (r : Row). record { row = r; adjustments = t .adjustments }) (by-values each)
-    where
-      each : (p : Part) → withQueue (withTable (x .row) t) q p ≡ hostOf (record { sets = setsIn (x .row); table = t; queue = q }) .row p
-      each generations = at generations
-      each counts = at counts
-      each readers = at readers
-      each alterers = at alterers
-      each values = refl
-      each lasts = refl
-      each asleep = refl
-      each order = refl
-      each sleepsAt = refl
-      each sizes = refl
-      each names = refl
-      each arrays = refl
+  host-of t q = ap (λ (r : Row). record { row = r; adjustments = t .adjustments }) (by-groups _ _ (ap (λ (y : Host). setParts (y .row)) (k .holds)) refl refl)
 
   -- another table alone
   pub tabled-with : (t : Table) → tabled x t ≡ hostWith x t (queueIn (x .row))

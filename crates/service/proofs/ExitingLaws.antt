@@ -1,8 +1,8 @@
 -- Exit, once no check applies.
 use Prim.Native.Nat.{ℕ}
-use mathlib.Core.Path.{_≡_, refl, sym, ap, ap₂, _∙_}
+use mathlib.Core.Path.{_≡_, refl, ap, ap₂, _∙_}
 use mathlib.Core.List.{List, []}
-use lib.IntN.{ℤ, pos}
+use lib.IntN.{pos}
 use lib.ListN.{length}
 use Rattle.model.specs.declared.Engine.{Engine}
 use Rattle.model.specs.declared.Told.{Told}
@@ -10,7 +10,7 @@ use Rattle.model.specs.declared.Waking.{Waking}
 use Rattle.model.specs.Limits.{slots}
 use Rattle.model.specs.State.{Table, Sleeper}
 use Rattle.model.specs.Checks.{checkProcess}
-use Rattle.model.specs.Waking.{World, waker}
+use Rattle.model.specs.Waking.{waker}
 use Rattle.model.specs.Events.{exited, keep, touchedFrom, treatFrom, world, doExit}
 use Rattle.model.specs.Runs.{All}
 use Rattle.model.specs.Invariant.{Good, Fits, Distinct}
@@ -18,12 +18,12 @@ use Rattle.model.proofs.CheckLaws.{process-passes}
 use Rattle.model.proofs.QueueLaws.{keep-all, keep-distinct}
 use Rattle.model.proofs.TableLaws.{exited-good}
 use Rattle.host.specs.Parts.{Row}
-use Rattle.host.specs.Holding.{Host, withQueue, withTable, setsFrom, setsIn, hostWith, queueIn, tableIn, stateIn, Held}
+use Rattle.host.specs.Holding.{Host, withQueue, withTable, setsFrom, setsIn, queueIn, tableIn, stateIn, Held}
 use Rattle.wakings.specs.Wakings.{listOf}
 use Rattle.service_table.specs.Numbered.{IsProcess}
 use Rattle.service_table.specs.Written.{tabled}
 use Rattle.service_queue.specs.Seated.{notOf}
-use Rattle.service_waking.specs.Lent.{Lent, Left, leftWith, unwoken, Ready, treatedFrom}
+use Rattle.service_waking.specs.Lent.{Left, unwoken, Ready, treatedFrom}
 use Rattle.service_waking.proofs.LentLaws.{table-under}
 use Rattle.service.specs.After.{telling, afterOf}
 use Rattle.service.proofs.EventLaws.{held-invariant, poised-ready, poised-world, after-woken, goes-on}

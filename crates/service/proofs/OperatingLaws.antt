@@ -1,12 +1,12 @@
 -- Operate, once no check applies: as its array is judged.
-use Prim.Native.Nat.{ℕ, suc, _+_, _≤_, _<_}
+use Prim.Native.Nat.{ℕ, _≤_, _<_}
 use native.Mathlib.Omega.{arith}
-use mathlib.Core.Path.{_≡_, refl, sym, ap, ap₂, _∙_}
+use mathlib.Core.Path.{_≡_, sym, ap, ap₂, _∙_}
 use mathlib.Core.Logic.{_≢_}
 use mathlib.Core.List.{List, [], _∷_, _++_}
 use lib.IntN.{ℤ, pos, negsuc}
-use lib.ListN.{length, take, drop, length-append}
-use lib.Seq.{slice, paste, take-paste, drop-at, take-all, length-take-le}
+use lib.ListN.{length, take, length-append}
+use lib.Seq.{take-paste, drop-at, take-all, length-take-le}
 use Rattle.model.specs.declared.Copies.{Copies}
 use Rattle.model.specs.declared.Engine.{Engine}
 use Rattle.model.specs.declared.Outcome.{Outcome}
@@ -20,9 +20,9 @@ use Rattle.model.specs.Marks.{differing}
 use Rattle.model.specs.Checks.{slotOf, checkOperate}
 use Rattle.model.specs.Judge.{codeOf}
 use Rattle.model.specs.Waking.{waker}
-use Rattle.model.specs.Events.{Result, refused, call, operated, doOperate}
+use Rattle.model.specs.Events.{Result, call, operated, doOperate}
 use Rattle.model.specs.Runs.{All, none, also}
-use Rattle.model.specs.Invariant.{Good, Fits, Other}
+use Rattle.model.specs.Invariant.{Good, Fits}
 use Rattle.model.proofs.Lists.{all-append}
 use Rattle.model.proofs.CheckLaws.{Operable, operate-passes}
 use Rattle.model.proofs.QueueLaws.{distinct-snoc, fits-few}

@@ -2,7 +2,7 @@
 use Prim.Native.Nat.{ℕ, _<_, _^_}
 use native.Mathlib.Nat.{zero-lt-suc}
 use native.Mathlib.Omega.{arith}
-use mathlib.Core.Path.{_≡_, refl, sym, ap, ap₂, _∙_}
+use mathlib.Core.Path.{_≡_, ap, ap₂, _∙_}
 use mathlib.Core.Bool.{not}
 use mathlib.Core.List.{List, []}
 use lib.Dec.{eqb}
@@ -19,13 +19,13 @@ use Rattle.model.specs.Events.{assigned, doSetValue}
 use Rattle.model.specs.Invariant.{Good}
 use Rattle.model.proofs.CheckLaws.{passes, Assignable, setValue-passes}
 use Rattle.model.proofs.TableLaws.{assigned-good}
-use Rattle.host.specs.Holding.{Host, hostWith, queueIn, tableIn, stateIn, Held}
+use Rattle.host.specs.Holding.{Host, queueIn, tableIn, stateIn, Held}
 use Rattle.judging.specs.Value.{valueOf}
 use Rattle.wakings.specs.Wakings.{listOf}
 use Rattle.service_table.specs.Written.{tabled}
-use Rattle.service_waking.specs.Lent.{Lent, Left, unwoken, Ready, treated}
+use Rattle.service_waking.specs.Lent.{Left, unwoken, Ready, treated}
 use Rattle.service.specs.After.{telling, afterOf}
-use Rattle.service.proofs.EventLaws.{held-invariant, held-counts, tabled-with, poised-lent, poised-ready, after-treated, goes-on}
+use Rattle.service.proofs.EventLaws.{held-invariant, held-counts, poised-lent, poised-ready, after-treated, goes-on}
 
 -- a value that passed the checks is what the semaphore will hold
 pub value-kept : (s : State) (i : ℤ) (n : ℕ) (v : ℤ) → checkSetValue s i n v ≡ 0 → valueOf v ≡ natAbs v

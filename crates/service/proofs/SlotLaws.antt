@@ -8,15 +8,15 @@ use Rattle.model.specs.declared.Set.{Set}
 use Rattle.model.specs.declared.Told.{Told}
 use Rattle.model.specs.declared.Waking.{Waking}
 use Rattle.model.specs.Limits.{slots}
-use Rattle.model.specs.State.{Table, Sleeper, State, freeSet, noSet}
+use Rattle.model.specs.State.{Table, Sleeper, freeSet, noSet}
 use Rattle.model.specs.Marks.{mine}
 use Rattle.model.specs.Checks.{slotOf, freeSlot, identifierOf, checkCreate, checkRemove}
 use Rattle.model.specs.Events.{keep, endedWith, cleared, doCreate, doRemove}
 use Rattle.model.proofs.CheckLaws.{create-passes, remove-passes}
-use Rattle.host.specs.Parts.{Part, generations, counts, readers, alterers, values, lasts, asleep, order, sleepsAt, sizes, names, arrays, Row}
-use Rattle.host.specs.Holding.{Host, withQueue, withTable, withSets, hostOf, setAt, withSet, setsIn, queueIn, tableIn, stateIn, Held, arrayIn}
+use Rattle.host.specs.Parts.{Row}
+use Rattle.host.specs.Holding.{Host, withQueue, withTable, hostOf, setAt, withSet, setsIn, queueIn, tableIn, stateIn, Held, arrayIn}
 use Rattle.host.specs.Queue.{Queued, Lined}
-use Rattle.host.proofs.PartLaws.{by-values}
+use Rattle.host.proofs.PartLaws.{SetParts, setParts, queueParts, by-groups}
 use Rattle.host.proofs.SetRows.{set-in}
 use Rattle.wakings.specs.Wakings.{listOf}
 use Rattle.service_table.specs.Written.{tabled}
@@ -31,46 +31,28 @@ map-set {B = B} f (y ∷ l) (suc i) x = ap (λ (r : List B). f y ∷ r) (map-set
 
 -- a set put into a slot of a host, another table, and another queue
 module _ (x : Host) (k : Held x) (slot : ℕ) (s : Set) (t : Table) (q : List Sleeper) where
-  at : (p : Part) → x .row p ≡ hostOf (stateIn x) .row p
-  at p = ap (λ (y : Host). y .row p) (k .holds)
+  -- the set is put into the four parts of the sets
+  abbrev put-into : SetParts → SetParts
+  put-into g =
+      record {
+        generations = set (g .generations) slot (s .generation);
+        counts = set (g .counts) slot (s .count);
+        readers = set (g .readers) slot (s .read);
+        alterers = set (g .alterers) slot (s .alter);
+      }
+
+  sets-put : setParts (withSet (x .row) slot s) ≡ setParts (hostOf (record { sets = set (setsIn (x .row)) slot s; table = t; queue = q }) .row)
+  sets-put =
+      let old : List Set = setsIn (x .row) in
+      ap (λ (y : Host). put-into (setParts (y .row))) (k .holds)
+      ∙ rw (map-set (λ (y : Set). y .generation) old slot s, map-set (λ (y : Set). y .count) old slot s, map-set (λ (y : Set). y .read) old slot s, map-set (λ (y : Set). y .alter) old slot s)
 
   pub set-host : record { row = withQueue (withTable (withSet (x .row) slot s) t) q; adjustments = t .adjustments } ≡ hostOf (record { sets = set (setsIn (x .row)) slot s; table = t; queue = q })
-  set-host = ap (λ (r : Row). record { row = r; adjustments = t .adjustments }) (by-values each)
-    where
-      each : (p : Part) → withQueue (withTable (withSet (x .row) slot s) t) q p ≡ hostOf (record { sets = set (setsIn (x .row)) slot s; table = t; queue = q }) .row p
-      each generations = ap (λ (l : List ℕ). set l slot (s .generation)) (at generations) ∙ map-set (λ (y : Set). y .generation) (setsIn (x .row)) slot s
-      each counts = ap (λ (l : List ℕ). set l slot (s .count)) (at counts) ∙ map-set (λ (y : Set). y .count) (setsIn (x .row)) slot s
-      each readers = ap (λ (l : List ℕ). set l slot (s .read)) (at readers) ∙ map-set (λ (y : Set). y .read) (setsIn (x .row)) slot s
-      each alterers = ap (λ (l : List ℕ). set l slot (s .alter)) (at alterers) ∙ map-set (λ (y : Set). y .alter) (setsIn (x .row)) slot s
-      each values = refl
-      each lasts = refl
-      each asleep = refl
-      each order = refl
-      each sleepsAt = refl
-      each sizes = refl
-      each names = refl
-      each arrays = refl
+  set-host = ap (λ (r : Row). record { row = r; adjustments = t .adjustments }) (by-groups _ _ sets-put refl refl)
 
   -- the queue's parts stay
   row-kept : withTable (withSet (x .row) slot s) t ≡ withQueue (withTable (withSet (x .row) slot s) t) (queueIn (x .row))
-  row-kept = by-values each
-    where
-      line : (p : Part) → x .row p ≡ withQueue (x .row) (queueIn (x .row)) p
-      line p = ap (λ (y : Row). y p) (held-lined x k .holds)
-
-      each : (p : Part) → withTable (withSet (x .row) slot s) t p ≡ withQueue (withTable (withSet (x .row) slot s) t) (queueIn (x .row)) p
-      each generations = refl
-      each counts = refl
-      each readers = refl
-      each alterers = refl
-      each values = refl
-      each lasts = refl
-      each asleep = line asleep
-      each order = line order
-      each sleepsAt = line sleepsAt
-      each sizes = line sizes
-      each names = line names
-      each arrays = line arrays
+  row-kept = by-groups _ _ refl refl (ap queueParts (held-lined x k .holds))
 
   queue-kept : queueIn (withTable (withSet (x .row) slot s) t) ≡ queueIn (x .row)
   unfolding queueIn arrayIn

@@ -1,6 +1,5 @@
 -- Who waits at a semaphore.
 use Prim.Native.Nat.{ℕ}
-use mathlib.Core.Path.{_≡_}
 use mathlib.Core.Bool.{Bool, cond}
 use mathlib.Core.List.{List}
 use Rattle.model.specs.State.{Table, Sleeper}

@@ -8,10 +8,10 @@ use Rattle.model.specs.Limits.{processes, arrayBytes}
 use Rattle.model.specs.State.{Sleeper, noSleeper}
 use Rattle.model.specs.Marks.{named}
 use Rattle.model.specs.Waking.{without}
-use Rattle.host.specs.Parts.{Part, generations, counts, readers, alterers, values, lasts, asleep, order, sleepsAt, sizes, names, arrays, Row, with, put}
+use Rattle.host.specs.Parts.{Part, asleep, order, sleepsAt, sizes, arrays, Row, with, put}
 use Rattle.host.specs.Holding.{withQueue, entry, withCall, queueIn}
 use Rattle.host.specs.Queue.{Room, Queued, Lined}
-use Rattle.host.proofs.PartLaws.{by-values}
+use Rattle.host.proofs.PartLaws.{by-groups}
 use Rattle.host.proofs.ProcessLaws.{Awake}
 use Rattle.host.proofs.QueueRows.{order-at, slot-read, size-read, emptied, taken, joinedBy, joined, queue-back}
 use Rattle.service_queue.specs.Seated.{movedUp}
@@ -20,21 +20,7 @@ use Rattle.service_queue.proofs.MovingLaws.{order-moved}
 -- ---- a queue is put into a row
 
 pub queue-again : (r : Row) (p q : List Sleeper) → withQueue (withQueue r p) q ≡ withQueue r q
-queue-again r p q = by-values each
-  where
-    each : (x : Part) → withQueue (withQueue r p) q x ≡ withQueue r q x
-    each generations = refl
-    each counts = refl
-    each readers = refl
-    each alterers = refl
-    each values = refl
-    each lasts = refl
-    each asleep = refl
-    each order = refl
-    each sleepsAt = refl
-    each sizes = refl
-    each names = refl
-    each arrays = refl
+queue-again r p q = by-groups _ _ refl refl refl
 
 module _ {r r′ : Row} {q : List Sleeper} (e : r′ ≡ withQueue r q) (f : Queued q) where
   -- the row shows it

@@ -1,11 +1,10 @@
 -- What is lent to a waking that is ready: each sleeper as the row has it; and what finishing one leaves.
-use Prim.Native.Nat.{ℕ, _+_, _*_, _-_, _≤_, _<_}
+use Prim.Native.Nat.{ℕ, _+_, _≤_, _<_}
 use native.Mathlib.Omega.{arith}
 use mathlib.Core.Path.{_≡_, refl, sym, ap, ap₂, subst, _∙_}
 use mathlib.Core.List.{List, [], _∷_, _++_}
 use lib.IntN.{ℤ, pos}
 use lib.ListN.{length, getD, set, take}
-use lib.Seq.{slice}
 use types.Run.{OneOf, miss}
 use denote.Enum.Declared.{tagOf}
 use Rattle.model.proofs.Outcome.{the-type}
@@ -15,26 +14,23 @@ use Rattle.model.specs.declared.Operation.{Operation}
 use Rattle.model.specs.declared.Copies.{Copies}
 use Rattle.model.specs.declared.Outcome.{Outcome}
 use Rattle.model.specs.declared.Outcome.the-variants.{Done, Sleep, Again, Range}
-use Rattle.model.specs.Limits.{slots, semaphores, processes, allSemaphores, allAdjustments}
-use Rattle.model.specs.State.{Table, Sleeper, noSleeper, row, undoRow}
+use Rattle.model.specs.Limits.{semaphores, processes}
+use Rattle.model.specs.State.{Table, Sleeper, noSleeper, row}
 use Rattle.model.specs.Judge.{codeOf}
-use Rattle.model.specs.Look.{look, after, applied, valuesOf, adjustmentsOf}
+use Rattle.model.specs.Look.{look, after, applied}
 use Rattle.model.specs.Waking.{World, finish, without, waking}
 use Rattle.model.specs.Invariant.{Fits, Calm, countAt}
 use Rattle.model.proofs.Lists.{all-map, all-at}
 use Rattle.model.proofs.WakingLaws.{finish-wakings}
-use Rattle.host.specs.Parts.{Part, generations, counts, readers, alterers, values, lasts, asleep, order, sleepsAt, sizes, names, arrays, Row}
-use Rattle.host.specs.Rows.{from, undoAt}
-use Rattle.host.specs.Holding.{Host, withQueue, withTable, hostWith, setsFrom, setsIn, entry, arrayIn, sleeperIn, asleepIn, queueIn, tableIn}
-use Rattle.host.specs.Queue.{Room, Queued, Lined}
-use Rattle.host.proofs.PartLaws.{by-values}
-use Rattle.host.proofs.RowLaws.{from-slice}
-use Rattle.host.proofs.QueueRows.{queued, queue-back, order-at, slot-read, array-read-back, room-at}
+use Rattle.host.specs.Parts.{counts, order, sleepsAt, Row}
+use Rattle.host.specs.Holding.{withQueue, withTable, setsFrom, setsIn, entry, arrayIn, asleepIn, queueIn, tableIn}
+use Rattle.host.specs.Queue.{Queued, Lined}
+use Rattle.host.proofs.PartLaws.{by-groups}
+use Rattle.host.proofs.QueueRows.{queued, queue-back, order-at, slot-read, array-read-back}
 use Rattle.wakings.specs.Wakings.{listOf}
 use Rattle.wakings.proofs.ListLaws.{noted, take-listed}
-use Rattle.service_table.specs.Numbered.{IsSlot, IsProcess, Numbered}
-use Rattle.service_table.specs.Written.{tabled}
-use Rattle.service_waking.specs.Lent.{Lent, worldIn, lentWith, Ready, JudgedAs, Finishable}
+use Rattle.service_table.specs.Numbered.{IsProcess, Numbered}
+use Rattle.service_waking.specs.Lent.{Lent, worldIn, lentWith, Ready, JudgedAs}
 
 -- ---- rows with a table and a queue
 
@@ -49,57 +45,15 @@ sets-aside r t q = refl
 
 -- one queue over another, and over a table
 pub queue-over : (r : Row) (t u : Table) (q p : List Sleeper) → withQueue (withTable (withQueue (withTable r t) q) u) p ≡ withQueue (withTable r u) p
-queue-over r t u q p = by-values each
-  where
-    each : (k : Part) → withQueue (withTable (withQueue (withTable r t) q) u) p k ≡ withQueue (withTable r u) p k
-    each generations = refl
-    each counts = refl
-    each readers = refl
-    each alterers = refl
-    each values = refl
-    each lasts = refl
-    each asleep = refl
-    each order = refl
-    each sleepsAt = refl
-    each sizes = refl
-    each names = refl
-    each arrays = refl
+queue-over r t u q p = by-groups _ _ refl refl refl
 
 -- a table that the row has already
 pub table-same : (r : Row) (a : List ℤ) (q : List Sleeper) → withQueue (withTable r (tableIn (record { row = r; adjustments = a }))) q ≡ withQueue r q
-table-same r a q = by-values each
-  where
-    each : (k : Part) → withQueue (withTable r (tableIn (record { row = r; adjustments = a }))) q k ≡ withQueue r q k
-    each generations = refl
-    each counts = refl
-    each readers = refl
-    each alterers = refl
-    each values = refl
-    each lasts = refl
-    each asleep = refl
-    each order = refl
-    each sleepsAt = refl
-    each sizes = refl
-    each names = refl
-    each arrays = refl
+table-same r a q = by-groups _ _ refl refl refl
 
 -- a table under a queue
 pub table-under : (r : Row) (t : Table) (q : List Sleeper) → withTable (withQueue r q) t ≡ withQueue (withTable r t) q
-table-under r t q = by-values each
-  where
-    each : (k : Part) → withTable (withQueue r q) t k ≡ withQueue (withTable r t) q k
-    each generations = refl
-    each counts = refl
-    each readers = refl
-    each alterers = refl
-    each values = refl
-    each lasts = refl
-    each asleep = refl
-    each order = refl
-    each sleepsAt = refl
-    each sizes = refl
-    each names = refl
-    each arrays = refl
+table-under r t q = by-groups _ _ refl refl refl
 
 -- ---- a world in what is lent
 

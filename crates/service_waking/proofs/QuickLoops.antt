@@ -1,11 +1,11 @@
 -- The quick rule's loop: what a round has shown at a position, and the marks of a new one.
-use Prim.Native.Nat.{ℕ, _+_, _-_, _≤_, _<_}
+use Prim.Native.Nat.{ℕ, _+_, _≤_, _<_}
 use native.Mathlib.Omega.{arith}
 use mathlib.Core.Path.{_≡_, refl, sym, _∙_, ap, ap₂}
 use mathlib.Core.Bool.{true, false, not}
 use mathlib.Core.List.{List}
 use lib.Bits.{bitAnd, bitXor}
-use lib.ListN.{length, getD, drop}
+use lib.ListN.{getD, drop}
 use borrow.Author.Tests.{eq-eqb, ne-eqb}
 use Rattle.model.specs.declared.Outcome.{Outcome}
 use Rattle.model.specs.declared.Copies.{Copies}
@@ -13,7 +13,7 @@ use Rattle.model.specs.Limits.{processes}
 use Rattle.model.specs.State.{Table, Sleeper, noSleeper}
 use Rattle.model.specs.Judge.{finishes}
 use Rattle.model.specs.Look.{valuesOf}
-use Rattle.model.specs.Marks.{mine, marked, unmark, bitOf, markTouched, differing}
+use Rattle.model.specs.Marks.{marked, unmark, bitOf, markTouched, differing}
 use Rattle.model.specs.Waking.{World, nobody, finished, finish, quickRound, remark}
 use Rattle.model.proofs.WakingLaws.{quick-end, quick-other, quick-unmarked, quick-sleeps, quick-finishes, quick-over, quick-again}
 use Rattle.host.specs.Parts.{order, sleepsAt}

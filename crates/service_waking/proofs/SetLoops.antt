@@ -1,5 +1,5 @@
 -- A set is treated by an engine, and the live sets from slot 0 up.
-use Prim.Native.Nat.{ℕ, _+_, _*_, _-_, _≤_, _<_}
+use Prim.Native.Nat.{ℕ, _+_, _*_, _≤_, _<_}
 use native.Mathlib.Omega.{arith}
 use mathlib.Core.Path.{_≡_, refl, sym, _∙_, ap, subst}
 use mathlib.Core.Bool.{Bool, true, false}
@@ -20,7 +20,7 @@ use Rattle.model.proofs.Calm.{wake-calm, plain-looks, quick-looks}
 use Rattle.model.proofs.WakingLaws.{quick-over}
 use Rattle.host.specs.Holding.{setsIn, queueIn}
 use Rattle.service_waking.specs.Lent.{Lent, Left, worldIn, lentWith, leftWith, Ready, plainly, quickly, treated, treatedFrom}
-use Rattle.service_waking.proofs.LentLaws.{sets-with, world-back, world-over, with-ready}
+use Rattle.service_waking.proofs.LentLaws.{sets-with, world-back, with-ready}
 use Rattle.service_waking.proofs.WakingLoops.{left-over}
 
 -- ---- nobody is marked

@@ -1,25 +1,23 @@
 -- Settling an array: what is read of its sleeper, and that what is written is what it leaves.
-use Prim.Native.Nat.{ℕ, _+_, _^_, _≤_, _<_}
+use Prim.Native.Nat.{ℕ, _+_, _<_}
 use native.Mathlib.Omega.{arith}
 use mathlib.Core.Path.{_≡_, refl, sym, ap, ap₂, subst, _∙_}
-use mathlib.Core.Bool.{Bool, true, false, cond}
-use mathlib.Core.List.{List, [], _∷_}
+use mathlib.Core.Bool.{true}
+use mathlib.Core.List.{List}
 use lib.IntN.{ℤ, pos, natAbs}
 use lib.ListN.{length, getD, set}
 use Rattle.model.specs.declared.Copies.{Copies}
 use Rattle.model.specs.declared.Waking.{Waking}
-use Rattle.model.specs.declared.Operation.{Operation}
 use Rattle.model.specs.declared.Outcome.{Outcome}
 use Rattle.model.specs.declared.Outcome.the-variants.{Done, Sleep, Again, Range}
 use Rattle.model.specs.Limits.{semaphores}
 use Rattle.model.specs.State.{Table, Sleeper, noSleeper, row}
-use Rattle.model.specs.Operation.{operationsOf, isZero}
+use Rattle.model.specs.Operation.{operationsOf}
 use Rattle.model.specs.Judge.{judged, codeOf, finishes}
-use Rattle.model.specs.Look.{look, after, applied, valuesOf, adjustmentsOf}
+use Rattle.model.specs.Look.{look, after, valuesOf, adjustmentsOf}
 use Rattle.model.specs.Waking.{without, waking, finish}
-use Rattle.model.specs.Runs.{All, none, also}
 use Rattle.model.specs.Invariant.{Good, Fits}
-use Rattle.host.specs.Parts.{lasts, order, sleepsAt, Row}
+use Rattle.host.specs.Parts.{order, sleepsAt, Row}
 use Rattle.host.specs.Rows.{from, undoAt}
 use Rattle.host.specs.Holding.{Host, withQueue, withTable, entry, arrayIn, asleepIn, setsIn, queueIn, tableIn}
 use Rattle.host.specs.Queue.{Lined}

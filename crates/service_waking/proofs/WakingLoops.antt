@@ -1,5 +1,5 @@
 -- The loops of the waking: what a round over the queue has shown at a position, and what holds where a round begins.
-use Prim.Native.Nat.{ℕ, _+_, _*_, _-_, _≤_, _<_}
+use Prim.Native.Nat.{ℕ, _+_, _*_, _≤_, _<_}
 use native.Mathlib.Omega.{arith}
 use mathlib.Core.Path.{_≡_, refl, sym, _∙_, ap, subst}
 use mathlib.Core.Bool.{Bool, true, false}
@@ -10,7 +10,6 @@ use Rattle.model.specs.declared.Copies.{Copies}
 use Rattle.model.specs.Limits.{processes}
 use Rattle.model.specs.State.{noSleeper}
 use Rattle.model.specs.Judge.{finishes}
-use Rattle.model.specs.Look.{look}
 use Rattle.model.specs.Marks.{mine}
 use Rattle.model.specs.Waking.{World, Ended, nobody, finished, couldFinish, finish, plainRound}
 use Rattle.model.specs.Invariant.{Calm}
@@ -19,7 +18,7 @@ use Rattle.model.proofs.WakingLaws.{plain-end, plain-other, plain-sleeps, plain
 use Rattle.host.specs.Parts.{order, sleepsAt}
 use Rattle.host.specs.Holding.{setsIn, entry, asleepIn}
 use Rattle.service_waking.specs.Lent.{Lent, worldIn, lentWith, Left, leftWith, Ready, JudgedAs, plainly}
-use Rattle.service_waking.proofs.LentLaws.{world-over, world-back, with-ready, asleep-all, asleep-few, within, the-process, the-slot}
+use Rattle.service_waking.proofs.LentLaws.{world-over, world-back, with-ready, asleep-all, asleep-few, within, the-slot}
 
 -- a rule's end in a world that was put in
 pub left-over : (x : Lent) (w : World) (e : Ended) → leftWith (lentWith x w) e ≡ leftWith x e

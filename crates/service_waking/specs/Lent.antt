@@ -14,7 +14,7 @@ use Rattle.model.specs.Limits.{semaphores}
 use Rattle.model.specs.State.{Table, Sleeper, noSleeper}
 use Rattle.model.specs.Judge.{finishes}
 use Rattle.model.specs.Look.{look}
-use Rattle.model.specs.Waking.{World, Ended, finish, plain, quick, waker}
+use Rattle.model.specs.Waking.{World, Ended, plain, quick, waker}
 use Rattle.model.specs.Events.{world, treatFrom}
 use Rattle.model.specs.Invariant.{Good, Fits, Calm, countAt}
 use Rattle.host.specs.Holding.{Host, hostIn, hostWith, setsIn, tableIn, queueIn}

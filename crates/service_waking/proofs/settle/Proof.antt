@@ -1,9 +1,7 @@
 -- `service_waking::settle` meets its contract: the array is applied if it is done, and the table stays else.
-use mathlib.Core.Path.{_≡_, refl, sym, ap, _∙_}
+use mathlib.Core.Path.{_≡_, ap, _∙_}
 use lib.ListN.{length}
-use Rattle.model.specs.declared.Copies.{Copies}
 use Rattle.model.specs.Limits.{semaphores}
-use Rattle.model.specs.State.{Table}
 use Rattle.host.specs.Holding.{hostIn}
 use Rattle.service_table.specs.Written.{tabled}
 use Rattle.service_table.proofs.WrittenLaws.{tabled-same}

@@ -1,10 +1,9 @@
 -- `service_waking::wake_all` meets its contract: what is left to treat at a slot gives what all gave at the start.
-use Prim.Native.Nat.{_-_, _<_}
-use mathlib.Core.Path.{_≡_, refl, sym, ap, _∙_}
+use Prim.Native.Nat.{_-_}
+use mathlib.Core.Path.{_≡_, sym, _∙_}
 use mathlib.Core.Logic.{⊎-elim}
 use native.Mathlib.Omega.{arith}
 use lib.ListN.{getD}
-use Rattle.model.specs.declared.Set.{Set}
 use Rattle.model.specs.Limits.{slots}
 use Rattle.model.specs.State.{noSet}
 use Rattle.host.specs.Parts.{rowIn}

@@ -1,5 +1,4 @@
-use mathlib.Core.Path.{refl, sym, _∙_}
-use native.Mathlib.Omega.{arith}
+use mathlib.Core.Path.{refl}
 use Rattle.host.specs.Parts.{generations, counts, readers, alterers}
 use Rattle.host.proofs.PartLaws.{read-part, read-beyond}
 use Rattle.host.proofs.SleeperLaws.{byte-read}

@@ -1,6 +1,5 @@
 -- The definition makes the code's tests, on the sum as a number.
 use borrow.Author.Needs.{needs}
-use mathlib.Core.Path.{_≡_}
 use lib.IntN.{pos, _+ℤ_}
 use Rattle.model.specs.Events.{cut}
 use Rattle.judging.proofs.Signed.{wide, sum-fits, sum-is, unsigned}

@@ -1,5 +1,4 @@
 -- The definition makes the code's tests, on the difference as a number.
-use mathlib.Core.Path.{_≡_}
 use mir.Facts.{toZ-ofZ}
 use Rattle.model.specs.Judge.{nextAdjustment}
 use Rattle.judging.proofs.Signed.{wide, difference-fits, difference-is, between}

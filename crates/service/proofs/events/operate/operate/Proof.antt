@@ -1,24 +1,23 @@
 -- `service::events::operate::operate` meets its contract.
 use Prim.Native.Nat.{_<_}
 use native.Mathlib.Omega.{arith}
-use mathlib.Core.Path.{_≡_, refl, sym, ap, _∙_}
+use mathlib.Core.Path.{_≡_, refl, sym, _∙_}
 use lib.ListN.{length}
 use mir.Facts.{toZ-ofZ}
 use Rattle.model.specs.declared.Copies.{Copies}
 use Rattle.model.specs.Limits.{semaphores}
 use Rattle.model.specs.Checks.{slotOf, checkOperate}
 use Rattle.model.specs.Look.{valuesOf, adjustmentsOf, applied}
-use Rattle.model.specs.Operation.{operationsOf}
 use Rattle.model.specs.Events.{call, doOperate}
 use Rattle.host.specs.Holding.{Host, hostIn, stateIn, tableIn}
 use Rattle.judging.proofs.WalkLaws.{walked}
 use Rattle.service_checks.proofs.FoundSets.{slot-within}
-use Rattle.service_table.specs.Written.{tabled, written}
+use Rattle.service_table.specs.Written.{tabled}
 use Rattle.service_table.proofs.WrittenLaws.{sized-good, written-applied}
 use Rattle.service_waking.specs.Lent.{JudgedAs, treated}
 use Rattle.service_waking.proofs.LookLaws.{values-in, undo-read, judged-as}
 use Rattle.service.proofs.EventLaws.{held-invariant, held-lined, held-seated, refused-after, begun, begun-ready}
-use Rattle.service.proofs.OperatingLaws.{call-fits, call-process, call-numbered, call-room, call-awake, call-few, done-lent, done-ready, done-after, sleep-after, again-after, range-after}
+use Rattle.service.proofs.OperatingLaws.{call-process, call-numbered, call-room, call-awake, call-few, done-lent, done-ready, done-after, sleep-after, again-after, range-after}
 use borrow.Author.Needs.{needs}
 use Rattle.service.proofs.events.operate.operate.Statement.{statement}
 use Rattle.service.proofs.events.operate.operate.Tie as tie

@@ -1,6 +1,6 @@
 -- `service::events::remove::remove` meets its contract.
-use Prim.Native.Nat.{ℕ, _+_, _%_, _<_}
-use mathlib.Core.Path.{_≡_, refl, sym, ap, _∙_}
+use Prim.Native.Nat.{_+_, _%_}
+use mathlib.Core.Path.{_≡_, sym, ap, _∙_}
 use mir.Facts.{toZ-ofZ}
 use Rattle.model.specs.declared.Set.{Set}
 use Rattle.model.specs.Checks.{slotOf, checkRemove}
