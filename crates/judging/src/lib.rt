@@ -23,7 +23,6 @@ pub use named::altered_of;
 pub use named::names_of;
 pub use operation::half;
 pub use operation::signed_of;
-pub use outcome::code_of;
 pub use outcome::finishes;
 pub use walk::Verdict;
 pub use walk::judge;
