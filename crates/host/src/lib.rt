@@ -27,6 +27,7 @@ pub use sleepers::array_of;
 pub use sleepers::asleep_of;
 pub use sleepers::clear_array;
 pub use sleepers::names_at;
+pub use sleepers::place_at;
 pub use sleepers::process_at;
 pub use sleepers::put_asleep;
 pub use sleepers::put_call;

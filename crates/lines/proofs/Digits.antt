@@ -46,7 +46,7 @@ digits-more zero h = absurd (no h)
     no z = omega arith
 digits-more (suc n) h = rw (le-ltb (suc n) 10 h) (ap (λ l. l ++ digit (suc n % 10) ∷ []) (same n (suc n / 10) (suc n / 10) (omega arith) (omega arith)))
 
-digits-two : (n : ℕ) → 10 ≤ n → n < 100 → digitsOf n ≡ digit (n / 10) ∷ digit (n % 10) ∷ []
+pub digits-two : (n : ℕ) → 10 ≤ n → n < 100 → digitsOf n ≡ digit (n / 10) ∷ digit (n % 10) ∷ []
 digits-two n h k = digits-more n h ∙ ap (λ l. l ++ digit (n % 10) ∷ []) (digits-one (n / 10) (omega arith))
 
 pub count-one : (n : ℕ) → n < 10 → length (digitsOf n) ≡ 1
@@ -90,40 +90,19 @@ digits-below-100 n h = by (leb 10 n) refl
 pub count-below-100 : (n : ℕ) → n < 100 → length (digitsOf n) ≡ boolByte (leb 10 n) + 1
 count-below-100 n h = ap length (digits-below-100 n h) ∙ length-lead (leb 10 n) (digit (n / 10)) (digit (n % 10) ∷ [])
 
--- its digits in two pairs, the second whole
-pub digits-below-10000 : (n : ℕ) → 10 ≤ n → n < 10000
-    → digitsOf n ≡ lead (leb 1000 n) (digit (n / 100 / 10)) (lead (leb 100 n) (digit (n / 100 % 10)) (digit (n % 100 / 10) ∷ digit (n % 100 % 10) ∷ []))
-digits-below-10000 n l h = by (leb 1000 n) (leb 100 n) refl refl
-  where
-    low : List ℕ
-    low = digit (n % 100 / 10) ∷ digit (n % 100 % 10) ∷ []
+-- ---- a longer one, by its last two digits
 
-    -- what stands before the last two digits
-    hundreds : 100 ≤ n → digitsOf n ≡ digitsOf (n / 100) ++ low
-    hundreds g =
-        let k : 10 ≤ n / 10 = omega arith in
-        let e : n / 10 / 10 ≡ n / 100 = omega arith in
-        let a : n % 100 / 10 ≡ n / 10 % 10 = omega arith in
-        let b : n % 100 % 10 ≡ n % 10 = omega arith in
-        rw (digits-more n l, digits-more (n / 10) k, e, a, b) (append-assoc (digitsOf (n / 100)) (digit (n / 10 % 10) ∷ []) (digit (n % 10) ∷ []))
+pub digits-hundreds : (n : ℕ) → 100 ≤ n → digitsOf n ≡ digitsOf (n / 100) ++ digit (n % 100 / 10) ∷ digit (n % 100 % 10) ∷ []
+digits-hundreds n g =
+    let l : 10 ≤ n = omega arith in
+    let k : 10 ≤ n / 10 = omega arith in
+    let e : n / 10 / 10 ≡ n / 100 = omega arith in
+    let a : n % 100 / 10 ≡ n / 10 % 10 = omega arith in
+    let b : n % 100 % 10 ≡ n % 10 = omega arith in
+    rw (digits-more n l, digits-more (n / 10) k, e, a, b) (append-assoc (digitsOf (n / 100)) (digit (n / 10 % 10) ∷ []) (digit (n % 10) ∷ []))
 
-    by : (t u : Bool) → leb 1000 n ≡ t → leb 100 n ≡ u → digitsOf n ≡ lead t (digit (n / 100 / 10)) (lead u (digit (n / 100 % 10)) low)
-    by true true e f =
-        hundreds (leb-true 100 n f) ∙ ap (λ d. d ++ low) (digits-two (n / 100) (omega (arith, leb-true 1000 n e)) (omega arith))
-    by false true e f =
-        let z : n / 100 % 10 ≡ n / 100 = omega (arith, leb-false 1000 n e) in
-        rw z (hundreds (leb-true 100 n f) ∙ ap (λ d. d ++ low) (digits-one (n / 100) (omega (arith, leb-false 1000 n e))))
-    by false false e f =
-        let k : n < 100 = leb-false 100 n f in
-        let z : n % 100 ≡ n = omega arith in
-        rw z (digits-two n l k)
-    by true false e f = absurd (no (leb-true 1000 n e) (leb-false 100 n f))
-      where
-        no : 1000 ≤ n → n < 100 → ⊥
-        no p q = omega arith
+pub count-two : (n : ℕ) → 10 ≤ n → n < 100 → length (digitsOf n) ≡ 2
+count-two n h k = ap length (digits-two n h k)
 
-pub count-below-10000 : (n : ℕ) → 10 ≤ n → n < 10000 → length (digitsOf n) ≡ boolByte (leb 1000 n) + (boolByte (leb 100 n) + 2)
-count-below-10000 n l h =
-    ap length (digits-below-10000 n l h)
-    ∙ length-lead (leb 1000 n) _ _
-    ∙ ap (λ k. boolByte (leb 1000 n) + k) (length-lead (leb 100 n) _ _)
+pub count-hundreds : (n : ℕ) → 100 ≤ n → length (digitsOf n) ≡ length (digitsOf (n / 100)) + 2
+count-hundreds n g = ap length (digits-hundreds n g) ∙ length-append (digitsOf (n / 100)) _

@@ -1,13 +1,14 @@
 // Writes numbers in decimal, from a position of a lent buffer on.
 //
-// A byte that only some numbers have, a further digit or a minus sign, is stored for each: where it is not due, the next
-// byte is stored at the same place, over it. So what a number looks like decides no jump, as long as it is short.
+// The numbers of one line have mostly as many digits as those of the line before, so a jump tells how many there are. With
+// codes it is not so: a byte that only some have, a minus sign or a second digit, is stored for each, and where it is not due
+// the next byte is stored at the same place, over it.
 ghost use mathlib.Core.Path.{_≡_};
-ghost use mathlib.Core.List.{_∷_};
-ghost use Prim.Native.Nat.{_+_, _≤_, _<_};
+ghost use mathlib.Core.List.{[], _∷_};
+ghost use Prim.Native.Nat.{_+_, _/_, _%_, _≤_, _<_};
 ghost use lib.ListN.{length};
 ghost use lib.IntN.{natAbs};
-ghost use Rattle.lines.specs.Text.{digitsOf, signedOf};
+ghost use Rattle.lines.specs.Text.{digit, digitsOf, signedOf};
 ghost use Rattle.lines.specs.Buffer.{Put};
 
 const MINUS: u8 = 45;
@@ -44,21 +45,25 @@ fn any_number(out: &mut [u8], at: usize, n: usize) -> usize
     end
 }
 
-// Writes a number of two to four digits.
-fn four(out: &mut [u8], at: usize, n: usize) -> usize
-    requires { ⌜ (10 ≤ n) × (n < 10000) ⌝ }
-    requires { ⌜ at + length (digitsOf n) ≤ length (now out) ⌝ }
+// Writes a number of one digit.
+fn single(out: &mut [u8], at: usize, n: usize) -> usize
+    requires { ⌜ n < 10 ⌝ }
+    requires { ⌜ at + 1 ≤ length (now out) ⌝ }
     ensures { λ r. ⌜ Put (now (out .entry)) at (digitsOf n) (now (out .exit)) r ⌝ }
 {
-    let high = n / 100;
-    let low = n % 100;
-    let second = at + ((1000 <= n) as usize);
-    let third = second + ((100 <= n) as usize);
-    out[at] = ZERO + ((high / 10) as u8);
-    out[second] = ZERO + ((high % 10) as u8);
-    out[third] = ZERO + ((low / 10) as u8);
-    out[third + 1] = ZERO + ((low % 10) as u8);
-    third + 2
+    out[at] = ZERO + (n as u8);
+    at + 1
+}
+
+// Writes a number in two digits.
+fn pair(out: &mut [u8], at: usize, n: usize) -> usize
+    requires { ⌜ n < 100 ⌝ }
+    requires { ⌜ at + 2 ≤ length (now out) ⌝ }
+    ensures { λ r. ⌜ Put (now (out .entry)) at (digit (n / 10) ∷ digit (n % 10) ∷ []) (now (out .exit)) r ⌝ }
+{
+    out[at] = ZERO + ((n / 10) as u8);
+    out[at + 1] = ZERO + ((n % 10) as u8);
+    at + 2
 }
 
 // Writes a number. Most have one digit, and few have more than four.
@@ -67,11 +72,18 @@ pub fn number(out: &mut [u8], at: usize, n: usize) -> usize
     ensures { λ r. ⌜ Put (now (out .entry)) at (digitsOf n) (now (out .exit)) r ⌝ }
 {
     if n < 10 {
-        out[at] = ZERO + (n as u8);
-        return at + 1;
+        return single(out, at, n);
+    }
+    if n < 100 {
+        return pair(out, at, n);
+    }
+    if n < 1000 {
+        let next = single(out, at, n / 100);
+        return pair(out, next, n % 100);
     }
     if n < 10000 {
-        return four(out, at, n);
+        let next = pair(out, at, n / 100);
+        return pair(out, next, n % 100);
     }
     any_number(out, at, n)
 }

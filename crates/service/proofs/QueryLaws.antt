@@ -3,13 +3,14 @@ use Prim.Native.Nat.{ℕ, zero, suc, _+_, _*_, _/_, _%_, _^_, _≤_, _<_}
 use native.Mathlib.Nat.{not-suc-le-zero, le-of-suc-le-suc}
 use native.Mathlib.Omega.{arith}
 use mathlib.Core.Path.{_≡_, refl, sym, ap, ap₂, _∙_}
-use mathlib.Core.Bool.{Bool, true, false, cond}
+use mathlib.Core.Bool.{Bool, true, false, cond, not, _&&_}
 use mathlib.Core.List.{List, [], _∷_}
 use lib.Bits.{bitAnd, bitOr, or-zero-r}
 use lib.Count.{ones}
 use lib.IntN.{ℤ, pos}
 use lib.ListN.{length, getD, drop, drop-of-length-le}
-use borrow.Author.Tests.{eq-eqb, ne-eqb}
+use lib.Dec.{eqb}
+use borrow.Author.Tests.{eqb-true, eqb-false, eq-eqb, ne-eqb}
 use Rattle.model.specs.declared.Copies.{Copies}
 use Rattle.model.specs.declared.Judged.{Judged}
 use Rattle.model.specs.declared.Operation.{Operation}
@@ -20,7 +21,7 @@ use Rattle.model.specs.State.{Table, Sleeper, noSleeper, row}
 use Rattle.model.specs.Operation.{operationAt, operationsFrom, operationsOf, isNegative, hasBit}
 use Rattle.model.specs.Judge.{step, goOn, judgeFrom, finishes}
 use Rattle.model.specs.Look.{look, copiesOf}
-use Rattle.model.specs.Marks.{bitOf, mine, named, maskOf}
+use Rattle.model.specs.Marks.{bitOf, marked, mine, named, concerned, maskOf, markTouched}
 use Rattle.model.specs.Checks.{slotOf, checkNumber}
 use Rattle.model.specs.Counts.{noOperation, stop, stopsAt, forIncrease, forZero}
 use Rattle.model.specs.Events.{Result, answer, checked, seenAt, doQuery}
@@ -29,17 +30,20 @@ use Rattle.model.proofs.LookLaws.{numbers-fit}
 use Rattle.model.proofs.CheckLaws.{number-passes}
 use Rattle.model.proofs.Ones.{ones-mask}
 use Rattle.model.proofs.TableLaws.{unnamed-other}
-use Rattle.host.specs.Parts.{values, lasts, order, sleepsAt, names, Row}
-use Rattle.host.specs.Holding.{Host, entry, arrayIn, queueIn, tableIn, stateIn, Held}
-use Rattle.host.proofs.QueueRows.{names-read}
+use Rattle.host.specs.Parts.{values, lasts, order}
+use Rattle.host.specs.Holding.{Host, arrayIn, queueIn, tableIn, stateIn, Held}
 use Rattle.service_table.specs.Numbered.{IsProcess}
 use Rattle.service_waking.specs.Lent.{Settleable}
-use Rattle.service_waking.proofs.SettleLaws.{settled-process, settled-slot, settled-array}
-use Rattle.service_waking.proofs.Marking.{shifted}
+use Rattle.service_waking.proofs.SettleLaws.{settled-process, settled-array}
+use Rattle.service_waking.proofs.Marking.{shifted, mask-at}
 use Rattle.service.specs.declared.events.query.Waiters.{Waiters}
 use Rattle.service.specs.After.{queriedOf}
 use Rattle.service.specs.Waiting.{bitIf, waitsOf, waitersOf}
 use Rattle.service.proofs.EventLaws.{held-invariant, held-lined, held-counts}
+
+both-first : (a b : Bool) → a && b ≡ true → a ≡ true
+both-first true b e = refl
+both-first false b e = e
 
 -- ---- the sleeper at a position of a host that holds a state: it can be looked at, and what is read by its process is its own
 
@@ -60,22 +64,25 @@ module _ (x : Host) (k : Held x) (at : ℕ) (h : at < length (queueIn (x .row)))
     pub process-there : IsProcess process
     process-there = let f = held-settleable .fits in record { least = omega (arith, process-own, f .process); most = omega (arith, process-own, f .last) }
 
-    pub slot-own : {slot : ℕ} → slot ≡ getD (x .row sleepsAt) (entry process) 0 → slot ≡ getD (queueIn (x .row)) at noSleeper .slot
-    slot-own e = e ∙ ap (λ (p : ℕ). getD (x .row sleepsAt) (entry p) 0) ep ∙ settled-slot x at held-settleable
-
     pub array-own : {bytes : List ℕ} → bytes ≡ arrayIn (x .row) process → bytes ≡ getD (queueIn (x .row)) at noSleeper .array
     array-own e = e ∙ ap (arrayIn (x .row)) ep ∙ settled-array x at held-settleable
 
-    names-own : {mask : ℕ} → mask ≡ getD (x .row names) (entry process) 0 → mask ≡ named (getD (queueIn (x .row)) at noSleeper)
-    names-own e =
-        let l = held-lined x k in
-        e ∙ ap (λ (p : ℕ). getD (x .row names) (entry p) 0) process-own
-        ∙ ap (λ (r : Row). getD (r names) (entry (sleeper .process)) 0) (l .holds)
-        ∙ names-read (queueIn (x .row)) (l .fits) at h (x .row)
+  -- the sleepers of a slot who name a semaphore, as marks
+  module _ (slot n : ℕ) (l : n < semaphores) {naming : ℕ} (em : naming ≡ markTouched slot (1 * 2 ^ n % 256) 0 (queueIn (x .row))) {process bit : ℕ} (ep : process ≡ getD (x .row order) at 0) (eb : bit ≡ bitOf process) where
+    -- `naming & bit`
+    marked-is : hasBit naming bit ≡ concerned slot (2 ^ n) (getD (queueIn (x .row)) at noSleeper)
+    unfolding marked
+    marked-is =
+        let f = held-lined x k .fits in
+        ap₂ hasBit (em ∙ ap (λ (m : ℕ). markTouched slot m 0 (queueIn (x .row))) (shifted n l)) (eb ∙ ap bitOf (process-own ep))
+        ∙ mask-at (concerned slot (2 ^ n)) 0 (queueIn (x .row)) at h (f .rooms) (f .distinct) refl
 
-    -- `names & (1u8 << n)`
-    pub unnamed : {mask n : ℕ} → mask ≡ getD (x .row names) (entry process) 0 → n < semaphores → bitAnd mask (1 * 2 ^ n % 256) ≡ 0 → hasBit (named (getD (queueIn (x .row)) at noSleeper)) (2 ^ n) ≡ false
-    unnamed {mask} {n} e l z = rw (← names-own e, eq-eqb _ _ (ap (bitAnd mask) (sym (shifted n l)) ∙ z))
+    pub not-naming : bitAnd naming bit ≡ 0 → concerned slot (2 ^ n) (getD (queueIn (x .row)) at noSleeper) ≡ false
+    not-naming z = sym marked-is ∙ ap not (eq-eqb _ _ z)
+
+    pub names-here : (bitAnd naming bit ≡ 0 → ⊥) → getD (queueIn (x .row)) at noSleeper .slot ≡ slot
+    unfolding mine
+    names-here z = eqb-true _ _ (both-first _ _ (sym marked-is ∙ ap not (ne-eqb _ _ z)))
 
 -- ---- where a sleeper stops
 
@@ -174,6 +181,15 @@ module _ (t : Table) (slot n : ℕ) (s : Sleeper) where
           (λ x. all-at (operationsOf (s .array)) (look t s .position) noOperation (unnamed-other s n h) (omega (arith, length-operations (s .array) 0 (length (s .array) / operationBytes), small))
           (ap (λ (o : Operation). o .number) (operation-there (s .array) 0 (length (s .array) / operationBytes) (look t s .position) small ∙ ap (operationAt (s .array)) (omega arith)) ∙ x))
 
+  -- nowhere, as it is not of the set or does not name the semaphore
+  pub waits-unconcerned : concerned slot (2 ^ n) s ≡ false → noWaiters ≡ waitsOf t slot n s
+  unfolding mine
+  waits-unconcerned h = go (eqb (s .slot) slot) refl h
+    where
+      go : (b : Bool) → eqb (s .slot) slot ≡ b → b && hasBit (named s) (2 ^ n) ≡ false → noWaiters ≡ waitsOf t slot n s
+      go true e f = waits-unnamed (eqb-true _ _ e) f
+      go false e f = waits-elsewhere (eqb-false _ _ e)
+
 -- ---- the walk over the queue
 
 module _ (q : List Sleeper) (i : ℕ) (test : Sleeper → Bool) (m : ℕ) where
@@ -207,6 +223,9 @@ module _ {t : Table} {slot n : ℕ} {q : List Sleeper} where
           increases = rw (ap (λ (x : Waiters). x .increase) e) (sym (mask-more q i (forIncrease t slot n) increase h) ∙ w .increases);
           zeros = rw (ap (λ (x : Waiters). x .zero) e) (sym (mask-more q i (forZero t slot n) zero h) ∙ w .zeros);
         }
+
+    pub walked-by : i < length q → noWaiters ≡ waitsOf t slot n (getD q i noSleeper) → Walked t slot n q increase zero (i + 1)
+    walked-by h e = rw (or-zero-r increase, or-zero-r zero) at (walked-more h e)
 
     pub walked-all : length q ≤ i → record { increase = increase; zero = zero } ≡ waitersOf t slot n q
     walked-all h =

@@ -6,23 +6,25 @@ use mathlib.Core.Logic.{_≢_}
 use mathlib.Core.Bool.{Bool, true, false, cond, _&&_}
 use mathlib.Core.List.{List, [], _∷_}
 use lib.Dec.{eqb, leb}
-use native.Mathlib.Nat.{one-mul, mod-eq-of-lt}
+use native.Mathlib.Nat.{one-mul, mod-eq-of-lt, not-suc-le-zero, le-of-suc-le-suc}
 use lib.Pow.{pow-lt}
 use lib.Bits.{bitAnd, bitOr, or-step, or-shr, or-zero-r}
-use lib.ListN.{getD}
+use lib.ListN.{length, getD}
 use mir.Val.{boolByte}
-use borrow.Author.Tests.{eqb-true, eqb-false, leb-true, leb-false, le-leb, lt-leb}
-use Rattle.model.specs.Limits.{processes}
-use Rattle.model.specs.State.{Sleeper}
+use borrow.Author.Tests.{eqb-true, eqb-false, eq-eqb, leb-true, leb-false, le-leb, lt-leb}
+use Rattle.model.specs.Limits.{slots, processes}
+use Rattle.model.specs.State.{Sleeper, noSleeper}
 use Rattle.model.specs.Operation.{hasBit}
-use Rattle.model.specs.Marks.{bitOf, named, mine, concerned, maskOf, markTouched}
+use Rattle.model.specs.Marks.{bitOf, named, marked, mine, concerned, maskOf, markTouched}
 use Rattle.model.specs.Runs.{All, none, also}
-use Rattle.model.specs.Invariant.{Distinct}
-use Rattle.model.proofs.Lists.{all-map}
+use Rattle.model.specs.Invariant.{Other, Distinct}
+use Rattle.model.proofs.Bits.{bit-or-same, bit-or-other}
+use Rattle.model.proofs.Lists.{first, rest, all-at, all-map}
+use Rattle.model.proofs.MarkLaws.{marked-bit}
 use Rattle.model.proofs.QueueLaws.{others-first, distinct-rest}
 use Rattle.host.specs.Parts.{Row, Part, sleepsAt, names}
 use Rattle.host.specs.Holding.{ofProcess, byProcess, theSlot, withQueue, entry, queueIn}
-use Rattle.host.specs.Queue.{Lined}
+use Rattle.host.specs.Queue.{Room, Lined}
 use Rattle.host.proofs.ProcessLaws.{of-process}
 use Rattle.host.proofs.QueueRows.{entry-is}
 
@@ -95,6 +97,38 @@ module _ (test : Sleeper → Bool) where
   mask-same other m none = refl
   mask-same other m (also {x = s} h t) = rw h (mask-same other (cond (other s) (bitOr m (bitOf (s .process))) m) t)
 
+  -- the mask and one more
+  abbrev with-one : ℕ → Sleeper → ℕ
+  with-one m s = cond (test s) (bitOr m (bitOf (s .process))) m
+
+  -- .. it changes no other's bit
+  mark-other : (m : ℕ) (p s : Sleeper) → 1 ≤ p .process → 1 ≤ s .process → Other p s → marked (with-one m p) s ≡ marked m s
+  mark-other m p s hp hs o = go (test p)
+    where
+      go : (b : Bool) → marked (cond b (bitOr m (bitOf (p .process))) m) s ≡ marked m s
+      go true = marked-bit _ s ∙ ap (λ (x : ℕ). eqb x 1) (bit-or-other m (p .process - 1) (s .process - 1) (λ e. o (omega arith))) ∙ sym (marked-bit m s)
+      go false = refl
+
+  mask-others : (m : ℕ) (q : List Sleeper) (s : Sleeper) → 1 ≤ s .process → All Room q → All (Other s) q → marked (maskOf test m q) s ≡ marked m s
+  unfolding maskOf
+  mask-others m [] s h k o = refl
+  mask-others m (p ∷ q) s h k o = mask-others (with-one m p) q s h (rest k) (rest o) ∙ mark-other m p s (first k .process) h (λ e. first o (sym e))
+
+  -- a sleeper has its bit in the mask if it passes
+  pub mask-at : (m : ℕ) (q : List Sleeper) (i : ℕ) → i < length q → All Room q → Distinct q → marked m (getD q i noSleeper) ≡ false
+      → marked (maskOf test m q) (getD q i noSleeper) ≡ test (getD q i noSleeper)
+  unfolding maskOf
+  mask-at m [] i h k d z = absurd (not-suc-le-zero h)
+  mask-at m (s ∷ q) zero h k d z = mask-others (with-one m s) q s (first k .process) (rest k) (others-first d) ∙ go (test s)
+    where
+      go : (b : Bool) → marked (cond b (bitOr m (bitOf (s .process))) m) s ≡ b
+      go true = marked-bit _ s ∙ eq-eqb _ 1 (bit-or-same m (s .process - 1))
+      go false = z
+  mask-at m (s ∷ q) (suc i) h k d z =
+      let l : i < length q = le-of-suc-le-suc h in
+      mask-at (with-one m s) q i l (rest k) (distinct-rest d)
+      (mark-other m s (getD q i noSleeper) (first k .process) (all-at q i noSleeper (rest k) l .process) (all-at q i noSleeper (others-first d) l) ∙ z)
+
 -- ---- the processes to n alone
 
 module _ (test : Sleeper → Bool) where
@@ -102,21 +136,21 @@ module _ (test : Sleeper → Bool) where
   upTo n s = leb (s .process) n && test s
 
   -- the mask, and in it the sleeper if it passes
-  abbrev with-one : ℕ → ℕ → Sleeper → ℕ
-  with-one n m s = cond (upTo n s) (bitOr m (bitOf (s .process))) m
+  abbrev with-next : ℕ → ℕ → Sleeper → ℕ
+  with-next n m s = with-one (upTo n) m s
 
   -- one process more: the bit of the sleeper that is of it
   mask-next : (n m : ℕ) (q : List Sleeper) → Distinct q → maskOf (upTo (n + 1)) m q ≡ bitOr (maskOf (upTo n) m q) (cond (ofProcess false test (n + 1) q) (2 ^ n) 0)
   unfolding maskOf ofProcess
   mask-next n m [] d = sym (or-zero-r m)
-  mask-next n m (s ∷ q) d = go (eqb (s .process) (n + 1)) refl (mask-next n (with-one n m s) q (distinct-rest d))
+  mask-next n m (s ∷ q) d = go (eqb (s .process) (n + 1)) refl (mask-next n (with-next n m s) q (distinct-rest d))
     where
       into : (b : Bool) → maskOf (upTo n) (cond b (bitOr m (2 ^ n)) m) q ≡ bitOr (maskOf (upTo n) m q) (cond b (2 ^ n) 0)
       into true = mask-or (upTo n) m (2 ^ n) q
       into false = sym (or-zero-r (maskOf (upTo n) m q))
 
       -- nobody behind it is of its process
-      here : s .process ≡ n + 1 → maskOf (upTo (n + 1)) (with-one (n + 1) m s) q ≡ bitOr (maskOf (upTo n) (with-one n m s) q) (cond (test s) (2 ^ n) 0)
+      here : s .process ≡ n + 1 → maskOf (upTo (n + 1)) (with-next (n + 1) m s) q ≡ bitOr (maskOf (upTo n) (with-next n m s) q) (cond (test s) (2 ^ n) 0)
       here p =
           let k : s .process - 1 ≡ n = omega arith in
           rw (le-leb (s .process) (n + 1) (omega arith), lt-leb (s .process) n (omega arith), k)
@@ -125,8 +159,8 @@ module _ (test : Sleeper → Bool) where
           ∙ into (test s))
 
       go : (b : Bool) → eqb (s .process) (n + 1) ≡ b
-          → maskOf (upTo (n + 1)) (with-one n m s) q ≡ bitOr (maskOf (upTo n) (with-one n m s) q) (cond (ofProcess false test (n + 1) q) (2 ^ n) 0)
-          → maskOf (upTo (n + 1)) (with-one (n + 1) m s) q ≡ bitOr (maskOf (upTo n) (with-one n m s) q) (cond (cond b (test s) (ofProcess false test (n + 1) q)) (2 ^ n) 0)
+          → maskOf (upTo (n + 1)) (with-next n m s) q ≡ bitOr (maskOf (upTo n) (with-next n m s) q) (cond (ofProcess false test (n + 1) q) (2 ^ n) 0)
+          → maskOf (upTo (n + 1)) (with-next (n + 1) m s) q ≡ bitOr (maskOf (upTo n) (with-next n m s) q) (cond (cond b (test s) (ofProcess false test (n + 1) q)) (2 ^ n) 0)
       go true e ih = here (eqb-true (s .process) (n + 1) e)
       go false e ih = rw (next-or-not (s .process) n (eqb-false (s .process) (n + 1) e)) ih
 
@@ -169,16 +203,18 @@ module _ {r : Row} (k : Lined r) {slot touched marks : ℕ} where
         same = sym (mask-none (upTo (concerned slot touched) 0) marks (all-map (λ s h. ap (λ (b : Bool). b && concerned slot touched s) (lt-leb (s .process) 0 (omega (arith, h .process)))) (k .fits .rooms)));
       }
 
-  pub mark-more : {m n at mask : ℕ} → Marking r slot touched marks m n → n < processes → at ≡ getD (r sleepsAt) (entry (n + 1)) 0 → mask ≡ getD (r names) (entry (n + 1)) 0
-      → Marking r slot touched marks (bitOr m (bitAnd (boolByte (eqb at slot)) (boolByte (hasBit mask touched)) * 2 ^ n % 256)) (n + 1)
-  mark-more {m} {n} {at} {mask} w l e f =
+  pub mark-more : slot < slots → {m n at mask : ℕ} → Marking r slot touched marks m n → n < processes → at ≡ getD (r sleepsAt) (entry (n + 1)) 0 → mask ≡ getD (r names) (entry (n + 1)) 0
+      → Marking r slot touched marks (bitOr m (bitAnd (boolByte (eqb at (slot % 256))) (boolByte (hasBit mask touched)) * 2 ^ n % 256)) (n + 1)
+  mark-more small {m} {n} {at} {mask} w l e f =
+      let whole : slot % 256 ≡ slot = omega arith in
       let tests : eqb at slot && hasBit mask touched ≡ ofProcess false (concerned slot touched) (n + 1) (queueIn r) =
       ap₂ (λ (x y : ℕ). eqb x slot && hasBit y touched) (e ∙ by-next k sleepsAt theSlot n refl l) (f ∙ by-next k names named n refl l) ∙ sym (of-tests slot touched (n + 1) (queueIn r)) in
       record {
         within = omega arith;
         same =
-            ap₂ bitOr (w .same) (bit-if (eqb at slot) (hasBit mask touched) n l ∙ ap (λ (b : Bool). cond b (2 ^ n) 0) tests)
-            ∙ sym (mask-next (concerned slot touched) n marks (queueIn r) (k .fits .distinct));
+            rw whole
+            (ap₂ bitOr (w .same) (bit-if (eqb at slot) (hasBit mask touched) n l ∙ ap (λ (b : Bool). cond b (2 ^ n) 0) tests)
+            ∙ sym (mask-next (concerned slot touched) n marks (queueIn r) (k .fits .distinct)));
       }
 
   pub mark-all : {m n : ℕ} → Marking r slot touched marks m n → processes ≤ n → m ≡ markTouched slot touched marks (queueIn r)

@@ -2,8 +2,8 @@
 use Prim.Native.Nat.{ℕ, _+_, _≤_, _<_}
 use native.Mathlib.Omega.{arith}
 use mathlib.Core.Path.{_≡_, refl, sym, _∙_, ap, ap₂}
-use mathlib.Core.Bool.{true, false, not}
-use mathlib.Core.List.{List}
+use mathlib.Core.Bool.{Bool, true, false, not}
+use mathlib.Core.List.{List, [], _∷_}
 use lib.Bits.{bitAnd, bitXor}
 use lib.ListN.{getD, drop}
 use borrow.Author.Tests.{eq-eqb, ne-eqb}
@@ -13,7 +13,7 @@ use Rattle.model.specs.Limits.{processes}
 use Rattle.model.specs.State.{Table, Sleeper, noSleeper}
 use Rattle.model.specs.Judge.{finishes}
 use Rattle.model.specs.Look.{valuesOf}
-use Rattle.model.specs.Marks.{marked, unmark, bitOf, markTouched, differing}
+use Rattle.model.specs.Marks.{mine, marked, unmark, bitOf, markTouched, differing}
 use Rattle.model.specs.Waking.{World, nobody, finished, finish, quickRound, remark}
 use Rattle.model.proofs.WakingLaws.{quick-end, quick-other, quick-unmarked, quick-sleeps, quick-finishes, quick-over, quick-again}
 use Rattle.host.specs.Parts.{order, sleepsAt}
@@ -21,6 +21,28 @@ use Rattle.host.specs.Holding.{entry, asleepIn, queueIn, tableIn}
 use Rattle.service_waking.specs.Lent.{Lent, worldIn, lentWith, leftWith, Ready, JudgedAs, quickly}
 use Rattle.service_waking.proofs.LentLaws.{world-queue, world-table, asleep-all, asleep-few, within, the-process}
 use Rattle.service_waking.proofs.WakingLoops.{Begun, Again, again, left-over, mine-here, other-here, ends-here, world-next}
+
+-- ---- nobody is marked
+
+unmarked : (s : Sleeper) → marked 0 s ≡ false
+unfolding marked
+unmarked s = refl
+
+round-unmarked : (t : Table) (slot : ℕ) (q : List Sleeper) (i l : ℕ) → quickRound t slot q i l 0 ≡ nobody l
+unfolding quickRound
+round-unmarked t slot [] i l = refl
+round-unmarked t slot (s ∷ q) i l = go (mine slot s) refl (round-unmarked t slot q (i + 1) l)
+  where
+    go : (b : Bool) → mine slot s ≡ b → quickRound t slot q (i + 1) l 0 ≡ nobody l → quickRound t slot (s ∷ q) i l 0 ≡ nobody l
+    go true e r = rw (quickRound, e, unmarked s) r
+    go false e r = rw (quickRound, e) r
+
+-- the quick rule without marks leaves everything
+pub quick-nobody : (slot : ℕ) (x : Lent) (l : ℕ) → Ready x → record { lent = x; looks = l } ≡ quickly slot 0 x l
+quick-nobody slot x l r =
+    rw (quick-over slot (worldIn x) l 0 l (round-unmarked (worldIn x .table) slot (worldIn x .queue) 0 l)) (ap (λ (y : Lent). record { lent = y; looks = l }) (r .holds))
+
+-- ---- a round
 
 -- a round of the quick rule over x, that began with the looks l₀ and the marks m₀, has come to position i with l looks and
 -- the marks m
@@ -97,7 +119,12 @@ module _ (slot : ℕ) (x : Lent) (r : Ready x) (l₀ m₀ i l m : ℕ) (t : Quic
             (left-over x w _ ∙ ap (leftWith x) (sym (quick-again slot (worldIn x) l₀ i (l + 1) (within x r i h) m₀ _ found))))
 
   -- the round is over, and with it the rule
+  ended : quickRound (worldIn x .table) slot (drop i (worldIn x .queue)) i l m ≡ nobody l → record { lent = x; looks = l } ≡ quickly slot m₀ x l₀
+  ended e = rw (quick-over slot (worldIn x) l₀ m₀ l (sym (t .round) ∙ e)) (ap (λ (y : Lent). record { lent = y; looks = l }) (r .holds))
+
   pub quick-done : asleepIn (x .host .row) ≤ i → record { lent = x; looks = l } ≡ quickly slot m₀ x l₀
-  quick-done h =
-      let over : quickRound (worldIn x .table) slot (worldIn x .queue) 0 l₀ m₀ ≡ nobody l = sym (t .round) ∙ quick-end (worldIn x .table) slot (worldIn x .queue) i l m (omega (arith, asleep-all x r)) in
-      rw (quick-over slot (worldIn x) l₀ m₀ l over) (ap (λ (y : Lent). record { lent = y; looks = l }) (r .holds))
+  quick-done h = ended (quick-end (worldIn x .table) slot (worldIn x .queue) i l m (omega (arith, asleep-all x r)))
+
+  -- no mark is left
+  pub quick-spent : m ≡ 0 → record { lent = x; looks = l } ≡ quickly slot m₀ x l₀
+  quick-spent z = ended (rw z (round-unmarked (worldIn x .table) slot (drop i (worldIn x .queue)) i l))

@@ -2,46 +2,39 @@
 use Prim.Native.Nat.{ℕ, _+_, _*_, _≤_, _<_}
 use native.Mathlib.Omega.{arith}
 use mathlib.Core.Path.{_≡_, refl, sym, _∙_, ap, subst}
-use mathlib.Core.Bool.{Bool, true, false}
+use mathlib.Core.Bool.{Bool, true, false, cond, _&&_}
 use mathlib.Core.List.{List, [], _∷_}
+use lib.Bits.{bitOr, and-zero-r}
 use lib.ListN.{length, getD, drop, drop-of-length-le}
 use borrow.Author.Tests.{lt-ltb, le-ltb}
 use Rattle.model.specs.declared.Engine.{Engine}
 use Rattle.model.specs.declared.Engine.the-variants.{Plain, Quick}
 use Rattle.model.specs.declared.Set.{Set}
 use Rattle.model.specs.Limits.{slots}
-use Rattle.model.specs.State.{Table, Sleeper, noSet}
-use Rattle.model.specs.Marks.{mine, marked, markTouched}
-use Rattle.model.specs.Waking.{World, Ended, nobody, quickRound, waker}
+use Rattle.model.specs.State.{Sleeper, noSet}
+use Rattle.model.specs.Operation.{hasBit}
+use Rattle.model.specs.Marks.{bitOf, named, mine, concerned, maskOf, markTouched}
+use Rattle.model.specs.Waking.{World, Ended, waker}
 use Rattle.model.specs.Events.{treat, treatFrom}
 use Rattle.model.specs.Invariant.{Calm}
 use Rattle.model.proofs.Lists.{drop-at}
 use Rattle.model.proofs.Calm.{wake-calm, plain-looks, quick-looks}
-use Rattle.model.proofs.WakingLaws.{quick-over}
 use Rattle.host.specs.Holding.{setsIn, queueIn}
 use Rattle.service_waking.specs.Lent.{Lent, Left, worldIn, lentWith, leftWith, Ready, plainly, quickly, treated, treatedFrom}
 use Rattle.service_waking.proofs.LentLaws.{sets-with, world-back, with-ready}
 use Rattle.service_waking.proofs.WakingLoops.{left-over}
+use Rattle.service_waking.proofs.QuickLoops.{quick-nobody}
 
--- ---- nobody is marked
+-- ---- nothing is touched
 
-unmarked : (s : Sleeper) → marked 0 s ≡ false
-unfolding marked
-unmarked s = refl
-
-round-unmarked : (t : Table) (slot : ℕ) (q : List Sleeper) (i l : ℕ) → quickRound t slot q i l 0 ≡ nobody l
-unfolding quickRound
-round-unmarked t slot [] i l = refl
-round-unmarked t slot (s ∷ q) i l = go (mine slot s) refl (round-unmarked t slot q (i + 1) l)
+touches-nobody : (slot : ℕ) (q : List Sleeper) → markTouched slot 0 0 q ≡ 0
+unfolding maskOf
+touches-nobody slot [] = refl
+touches-nobody slot (s ∷ q) = go (mine slot s) (touches-nobody slot q)
   where
-    go : (b : Bool) → mine slot s ≡ b → quickRound t slot q (i + 1) l 0 ≡ nobody l → quickRound t slot (s ∷ q) i l 0 ≡ nobody l
-    go true e r = rw (quickRound, e, unmarked s) r
-    go false e r = rw (quickRound, e) r
-
--- the quick rule without marks leaves everything
-quick-unmarked : (slot : ℕ) (x : Lent) (l : ℕ) → Ready x → record { lent = x; looks = l } ≡ quickly slot 0 x l
-quick-unmarked slot x l r =
-    rw (quick-over slot (worldIn x) l 0 l (round-unmarked (worldIn x .table) slot (worldIn x .queue) 0 l)) (ap (λ (y : Lent). record { lent = y; looks = l }) (r .holds))
+    go : (b : Bool) → markTouched slot 0 0 q ≡ 0 → maskOf (concerned slot 0) (cond (b && hasBit (named s) 0) (bitOr 0 (bitOf (s .process))) 0) q ≡ 0
+    go true e = rw (and-zero-r (named s)) e
+    go false e = e
 
 -- ---- an engine's rule
 
@@ -49,17 +42,14 @@ pub wakes-plain : {engine : Engine} (slot touched : ℕ) (x : Lent) (l : ℕ) {y
 unfolding waker
 wakes-plain slot touched x l e q = rw e q
 
-module _ {engine : Engine} (slot touched : ℕ) (x : Lent) (l : ℕ) (r : Ready x) (e : engine ≡ Quick) (marks : ℕ)
-    (em : marks ≡ markTouched slot touched 0 (queueIn (x .host .row))) where
-  begins : treated engine slot touched x l ≡ quickly slot marks x l
+module _ {engine : Engine} (slot touched : ℕ) (x : Lent) (l : ℕ) (e : engine ≡ Quick) where
+  pub wakes-quick : (marks : ℕ) → marks ≡ markTouched slot touched 0 (queueIn (x .host .row)) → {y : Left} → y ≡ quickly slot marks x l → y ≡ treated engine slot touched x l
   unfolding waker worldIn
-  begins = rw e (ap (λ (m : ℕ). quickly slot m x l) (sym em))
+  wakes-quick marks em q = rw e (q ∙ ap (λ (m : ℕ). quickly slot m x l) em)
 
-  pub wakes-quick : {y : Left} → y ≡ quickly slot marks x l → y ≡ treated engine slot touched x l
-  wakes-quick q = q ∙ sym begins
-
-  pub wakes-nobody : marks ≡ 0 → record { lent = x; looks = l } ≡ treated engine slot touched x l
-  wakes-nobody z = quick-unmarked slot x l r ∙ ap (λ (m : ℕ). quickly slot m x l) (sym z) ∙ sym begins
+  pub wakes-nobody : Ready x → touched ≡ 0 → record { lent = x; looks = l } ≡ treated engine slot touched x l
+  wakes-nobody r z =
+      wakes-quick 0 (sym (ap (λ (k : ℕ). markTouched slot k 0 (queueIn (x .host .row))) z ∙ touches-nobody slot (queueIn (x .host .row)))) (quick-nobody slot x l r)
 
 wake-looks : {sets : List Set} (engine : Engine) (slot touched : ℕ) (w : World) (l : ℕ) → Calm sets w → waker engine slot touched w l .looks ≤ l + 36
 unfolding waker

@@ -23,6 +23,7 @@ use host::adjustments_of;
 use host::array_of;
 use host::asleep_of;
 use host::names_at;
+use host::place_at;
 use host::process_at;
 use host::set_at;
 use host::slot_at;
@@ -69,24 +70,33 @@ fn ending(outcome: Outcome) -> u8
     }
 }
 
-// A look at the sleeper at a position: its array judged on the present state. The copies are those of its set and its
-// process, as its operations leave them.
-pub fn look(
-    host: &[u8; HOST_BYTES],
-    adjustments: &[i16; ALL_ADJUSTMENTS],
-    at: usize,
-    values: &mut [u16; SEMAPHORES],
-    undo: &mut [i16; SEMAPHORES],
-) -> Verdict
+// What a look told: the outcome, the position of the operation that decided, and the copies of the values and of the
+// adjustments as the operations leave them.
+pub struct Looked {
+    pub outcome: Outcome,
+    pub position: usize,
+    pub values: [u16; SEMAPHORES],
+    pub undo: [i16; SEMAPHORES],
+}
+
+// A look at the sleeper at a position: its array judged on the present state.
+pub fn look(host: &[u8; HOST_BYTES], adjustments: &[i16; ALL_ADJUSTMENTS], at: usize) -> Looked
     requires { ⌜ Settleable (hostIn (now host) (now adjustments)) at ⌝ }
-    ensures { λ r. ⌜ JudgedAs (tableIn (hostIn (now (host .entry)) (now (adjustments .entry)))) (getD (queueIn (rowIn (now (host .entry)))) at noSleeper) (r .outcome) (record { values = now (values .exit); adjustments = now (undo .exit) }) ⌝ }
+    ensures { λ r. ⌜ JudgedAs (tableIn (hostIn (now (host .entry)) (now (adjustments .entry)))) (getD (queueIn (rowIn (now (host .entry)))) at noSleeper) (r .outcome) (record { values = r .values; adjustments = r .undo }) ⌝ }
     ensures { λ r. ⌜ r .position ≡ lookAt (tableIn (hostIn (now (host .entry)) (now (adjustments .entry)))) (getD (queueIn (rowIn (now (host .entry)))) at noSleeper) .position ⌝ }
 {
     let process = process_at(host, at);
     let slot = slot_at(host, process);
-    *values = values_of(host, slot);
-    *undo = adjustments_of(adjustments, process, slot);
-    judge(values, undo, array_of(host, process))
+    let mut values = values_of(host, slot);
+    let mut undo = adjustments_of(adjustments, process, slot);
+    let verdict = judge(&mut values, &mut undo, array_of(host, process));
+    let outcome = verdict.outcome;
+    Looked {
+        outcome: outcome,
+        position: verdict.position,
+        values: values,
+        undo: undo,
+    }
 }
 
 // What judging the array of the sleeper at a position leaves of the table: it is applied if it is done.
@@ -119,14 +129,15 @@ fn finish(
     wakings: &mut [u8; WAKING_BYTES],
     woken: usize,
     at: usize,
-    outcome: Outcome,
-    values: [u16; SEMAPHORES],
-    undo: [i16; SEMAPHORES],
+    looked: Looked,
 )
-    requires { ⌜ Finishable (lentIn (now host) (now adjustments) (now wakings) woken) at outcome (record { values = values; adjustments = undo }) ⌝ }
+    requires { ⌜ Finishable (lentIn (now host) (now adjustments) (now wakings) woken) at (looked .outcome) (record { values = looked .values; adjustments = looked .undo }) ⌝ }
     ensures { λ _. ⌜ lentIn (now (host .exit)) (now (adjustments .exit)) (now (wakings .exit)) (woken + 1) ≡ lentWith (lentIn (now (host .entry)) (now (adjustments .entry)) (now (wakings .entry)) woken) (finished (worldIn (lentIn (now (host .entry)) (now (adjustments .entry)) (now (wakings .entry)) woken)) at) ⌝ }
 {
     let process = process_at(&*host, at);
+    let outcome = looked.outcome;
+    let values = looked.values;
+    let undo = looked.undo;
     settle(&mut *host, adjustments, at, outcome, values, undo);
     take_out(host, at);
     note(wakings, woken, process, ending(outcome));
@@ -155,10 +166,8 @@ fn wake_plain(
             let process = process_at(&*host, i);
             if slot_at(&*host, process) == slot {
                 looks += 1;
-                let mut values = [0u16; SEMAPHORES];
-                let mut undo = [0i16; SEMAPHORES];
-                let verdict = look(&*host, &*adjustments, i, &mut values, &mut undo);
-                let outcome = verdict.outcome;
+                let looked = look(&*host, &*adjustments, i);
+                let outcome = looked.outcome;
                 if finishes(outcome) {
                     finish(
                         &mut *host,
@@ -166,9 +175,7 @@ fn wake_plain(
                         &mut *wakings,
                         woken,
                         i,
-                        outcome,
-                        values,
-                        undo,
+                        looked,
                     );
                     woken += 1;
                     continue 'rounds;
@@ -184,14 +191,16 @@ fn wake_plain(
 }
 
 // The marks, and those of the sleepers of a slot that name a touched semaphore.
-fn mark_touched(host: &[u8; HOST_BYTES], slot: usize, touched: u8, marks: u8) -> u8
+pub fn mark_touched(host: &[u8; HOST_BYTES], slot: usize, touched: u8, marks: u8) -> u8
+    requires { ⌜ IsSlot slot ⌝ }
     requires { ⌜ Lined (rowIn (now host)) ⌝ }
     ensures { λ r. ⌜ r ≡ markTouched slot touched marks (queueIn (rowIn (now (host .entry)))) ⌝ }
 {
+    let place = (slot % 256) as u8;
     let mut m = marks;
     for n in 0..PROCESSES {
         let process = (n as u8) + 1;
-        let here = (slot_at(host, process) == slot) as u8;
+        let here = (place_at(host, process) == place) as u8;
         let named = (names_at(host, process) & touched != 0) as u8;
         m = m | ((here & named) << n);
     }
@@ -220,6 +229,9 @@ fn wake_quick(
         let n = asleep_of(&*host);
         let mut i = 0;
         while i < n {
+            if marks == 0 {
+                break;
+            }
             let process = process_at(&*host, i);
             let bit = bit_of(process);
             let on = marks & bit;
@@ -227,10 +239,8 @@ fn wake_quick(
                 if slot_at(&*host, process) == slot {
                     marks = marks ^ bit;
                     looks += 1;
-                    let mut values = [0u16; SEMAPHORES];
-                    let mut undo = [0i16; SEMAPHORES];
-                    let verdict = look(&*host, &*adjustments, i, &mut values, &mut undo);
-                    let outcome = verdict.outcome;
+                    let looked = look(&*host, &*adjustments, i);
+                    let outcome = looked.outcome;
                     if finishes(outcome) {
                         let before = values_of(&*host, slot);
                         finish(
@@ -239,9 +249,7 @@ fn wake_quick(
                             &mut *wakings,
                             woken,
                             i,
-                            outcome,
-                            values,
-                            undo,
+                            looked,
                         );
                         woken += 1;
                         let touched = differing_mask(before, values_of(&*host, slot));
@@ -259,7 +267,7 @@ fn wake_quick(
     }
 }
 
-// A set is treated by the engine's rule. Where nobody is marked the quick rule looks at nobody.
+// A set is treated by the engine's rule. Where nothing is touched nobody is marked, and the quick rule looks at nobody.
 pub fn wake(
     host: &mut [u8; HOST_BYTES],
     adjustments: &mut [i16; ALL_ADJUSTMENTS],
@@ -277,10 +285,10 @@ pub fn wake(
     match engine {
         Engine::Plain => wake_plain(host, adjustments, wakings, slot, start),
         Engine::Quick => {
-            let marks = mark_touched(&*host, slot, touched, 0);
-            if marks == 0 {
+            if touched == 0 {
                 return start;
             }
+            let marks = mark_touched(&*host, slot, touched, 0);
             wake_quick(host, adjustments, wakings, slot, marks, start)
         }
     }

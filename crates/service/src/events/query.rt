@@ -7,15 +7,14 @@ ghost use lib.ListN.{length, getD};
 ghost use Rattle.model.specs.State.{noSleeper};
 ghost use Rattle.model.specs.Events.{answer as answerOf, doQuery};
 ghost use Rattle.host.specs.Holding.{Held, hostIn, stateIn, tableIn, queueIn};
+ghost use Rattle.service_table.specs.Numbered.{IsSlot};
 ghost use Rattle.service.specs.After.{queriedOf};
 ghost use Rattle.service.specs.Waiting.{waitsOf, waitersOf};
 use host::HOST_BYTES;
 use host::array_of;
 use host::asleep_of;
 use host::last_at;
-use host::names_at;
 use host::process_at;
-use host::slot_at;
 use host::value_at;
 use judging::answer;
 use judging::finishes;
@@ -30,6 +29,7 @@ use model::SEMAPHORES;
 use service_checks::check_number;
 use service_waking::bit_of;
 use service_waking::look;
+use service_waking::mark_touched;
 
 // Those who wait at a semaphore, as masks of processes: for an increase, and for zero.
 pub struct Waiters {
@@ -37,40 +37,29 @@ pub struct Waiters {
     pub zero: u8,
 }
 
-// The bit of a sleeper's process, in the mask of what it waits for at the semaphore; in none if it does not.
+// The bit of a sleeper's process, in the mask of what it waits for at a semaphore of its set; in none if it does not.
 fn one_waiter(
     host: &[u8; HOST_BYTES],
     adjustments: &[i16; ALL_ADJUSTMENTS],
     at: usize,
-    slot: usize,
     number: u16,
 ) -> Waiters
     requires { ⌜ Held (hostIn (now host) (now adjustments)) ⌝ }
     requires { ⌜ at < length (queueIn (hostIn (now host) (now adjustments) .row)) ⌝ }
-    requires { ⌜ number < semaphores ⌝ }
-    ensures { λ r. ⌜ r ≡ waitsOf (tableIn (hostIn (now (host .entry)) (now (adjustments .entry)))) slot number (getD (queueIn (hostIn (now (host .entry)) (now (adjustments .entry)) .row)) at noSleeper) ⌝ }
+    ensures { λ r. ⌜ r ≡ waitsOf (tableIn (hostIn (now (host .entry)) (now (adjustments .entry)))) (getD (queueIn (hostIn (now (host .entry)) (now (adjustments .entry)) .row)) at noSleeper .slot) number (getD (queueIn (hostIn (now (host .entry)) (now (adjustments .entry)) .row)) at noSleeper) ⌝ }
 {
     let none = Waiters {
         increase: 0,
         zero: 0,
     };
     let process = process_at(host, at);
-    if slot_at(host, process) != slot {
-        return none;
-    }
-    let named = names_at(host, process) & (1u8 << number);
-    if named == 0 {
-        return none;
-    }
-    let mut values = [0u16; SEMAPHORES];
-    let mut undo = [0i16; SEMAPHORES];
-    let verdict = look(host, adjustments, at, &mut values, &mut undo);
-    let outcome = verdict.outcome;
+    let looked = look(host, adjustments, at);
+    let outcome = looked.outcome;
     if finishes(outcome) {
         return none;
     }
     let bytes = array_of(host, process);
-    let from = OPERATION_BYTES * verdict.position;
+    let from = OPERATION_BYTES * looked.position;
     if half(bytes[from], bytes[from + 1]) != number {
         return none;
     }
@@ -89,7 +78,7 @@ fn one_waiter(
     }
 }
 
-// One walk over the sleepers, each judged on the present state.
+// One walk over the sleepers: those of the set who name the semaphore are judged on the present state.
 fn all_waiters(
     host: &[u8; HOST_BYTES],
     adjustments: &[i16; ALL_ADJUSTMENTS],
@@ -97,17 +86,22 @@ fn all_waiters(
     number: u16,
 ) -> Waiters
     requires { ⌜ Held (hostIn (now host) (now adjustments)) ⌝ }
+    requires { ⌜ IsSlot slot ⌝ }
     requires { ⌜ number < semaphores ⌝ }
     ensures { λ r. ⌜ r ≡ waitersOf (tableIn (hostIn (now (host .entry)) (now (adjustments .entry)))) slot number (queueIn (hostIn (now (host .entry)) (now (adjustments .entry)) .row)) ⌝ }
 {
     let n = asleep_of(host);
+    let naming = mark_touched(host, slot, 1u8 << number, 0);
     let mut increase: u8 = 0;
     let mut zero: u8 = 0;
     let mut i = 0;
     while i < n {
-        let one = one_waiter(host, adjustments, i, slot, number);
-        increase = increase | one.increase;
-        zero = zero | one.zero;
+        let on = naming & bit_of(process_at(host, i));
+        if on != 0 {
+            let one = one_waiter(host, adjustments, i, number);
+            increase = increase | one.increase;
+            zero = zero | one.zero;
+        }
         i += 1;
     }
     Waiters {

@@ -9,11 +9,11 @@ process-at-requires : tie.Need-process-at-requires
 process-at-requires c κs = search needs
 
 settle-requires : tie.Need-settle-requires
-settle-requires c κs = let a = c .before .before .before .before in settleable _ (a .pre .ready) (a .args .at) (a .pre .there)
+settle-requires c κs = let a = c .before .before .before .before .before .before in settleable _ (a .pre .ready) (a .args .at) (a .pre .there)
 
 take-out-requires : tie.Need-take-out-requires
 take-out-requires c κs =
-    let a = c .before .before .before .before .before .before in
+    let a = c .before .before .before .before .before .before .before .before in
     let x = lentIn (a .args .host .now) (a .args .adjustments .now) (a .args .wakings .now) (a .args .woken) in
     (finish-lined x (a .pre .ready) (a .args .at) (a .pre .there) _ _ (c .before .settle .ensures), finish-there x (a .pre .ready) (a .args .at) (a .pre .there) _ _ (c .before .settle .ensures))
 
@@ -25,10 +25,10 @@ note-requires c κs = search needs
 
 returns : tie.Need-returns
 returns c =
-    let a = c .before .before .before .before .before .before .before .before .before .before in
+    let a = c .before .before .before .before .before .before .before .before .before .before .before .before in
     let x = lentIn (a .args .host .now) (a .args .adjustments .now) (a .args .wakings .now) (a .args .woken) in
     finish-all x (a .pre .ready) (a .args .at) (a .pre .there) _ _ (c .before .before .before .before .before .settle .ensures) (a .pre .judged) (a .pre .finished)
-    (c .before .before .before .before .before .before .before .before .process-at .ensures) (c .before .before .before .take-out .ensures) (c .before .ending .ensures) (c .note .ensures)
+    (c .before .before .before .before .before .before .before .before .before .before .process-at .ensures) (c .before .before .before .take-out .ensures) (c .before .ending .ensures) (c .note .ensures)
 
 pub finish-spec : {M : Type 1} → statement M
 finish-spec =

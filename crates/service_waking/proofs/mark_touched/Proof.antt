@@ -7,13 +7,16 @@ use Rattle.service_waking.proofs.mark_touched.Statement.{statement}
 use Rattle.service_waking.proofs.mark_touched.Tie as tie
 
 abbrev Inv-loop : tie.InvT-loop
-Inv-loop host slot touched marks m₀ n₀ m n = Marking (rowIn host) slot touched marks m n
+Inv-loop host slot touched marks place m₀ n₀ m n = Marking (rowIn host) slot touched marks m n
 
 abbrev μ-loop : tie.MeasureT-loop
-μ-loop host slot touched marks m₀ n₀ m n = processes - n
+μ-loop host slot touched marks place m₀ n₀ m n = processes - n
+
+cast-place : tie.Need-cast-place Inv-loop μ-loop
+cast-place c = search needs
 
 loop-holds : tie.Need-loop-holds Inv-loop μ-loop
-loop-holds c = mark-none (c .pre)
+loop-holds c = mark-none (c .pre .1)
 
 cast-process : tie.Need-cast-process Inv-loop μ-loop
 cast-process c = search needs
@@ -21,8 +24,8 @@ cast-process c = search needs
 add-process : tie.Need-add-process Inv-loop μ-loop
 add-process c = search needs
 
-slot-at-requires : tie.Need-slot-at-requires Inv-loop μ-loop
-slot-at-requires c κs = search needs
+place-at-requires : tie.Need-place-at-requires Inv-loop μ-loop
+place-at-requires c κs = search needs
 
 cast-here : tie.Need-cast-here Inv-loop μ-loop
 cast-here c = search needs
@@ -47,11 +50,12 @@ loop-less c = search needs
 
 loop-again : tie.Need-loop-again Inv-loop μ-loop
 loop-again c =
-    mark-more (c .before .before .before .before .pre) (c .before .before .before .loop .inv) (c .before .before .loop-test .taken)
-    (c .before .slot-at .ensures) (c .names-at .ensures)
+    let s = c .before .before .before .before in
+    mark-more (s .pre .1) (s .pre .0) (c .before .before .before .loop .inv) (c .before .before .loop-test .taken)
+    (c .before .place-at .ensures) (c .names-at .ensures)
 
 returns : tie.Need-returns Inv-loop μ-loop
-returns c = mark-all (c .before .before .pre) (c .before .loop .inv) (c .loop-test .left)
+returns c = mark-all (c .before .before .pre .1) (c .before .loop .inv) (c .loop-test .left)
 
 pub mark-touched-spec : {M : Type 1} → statement M
 mark-touched-spec =
@@ -59,10 +63,11 @@ mark-touched-spec =
     (tie.spec
     Inv-loop
     μ-loop
+    cast-place
     loop-holds
     cast-process
     add-process
-    slot-at-requires
+    place-at-requires
     cast-here
     names-at-requires
     cast-named

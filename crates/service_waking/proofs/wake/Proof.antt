@@ -1,4 +1,5 @@
--- `service_waking::wake` meets its contract: each engine goes by its rule, and the quick one without marks leaves everything.
+-- `service_waking::wake` meets its contract: each engine goes by its rule, and where nothing is touched the quick one leaves
+-- everything.
 use Rattle.service_waking.proofs.LentLaws.{ready-lined}
 use Rattle.service_waking.proofs.SetLoops.{wakes-plain, wakes-quick, wakes-nobody}
 use borrow.Author.Needs.{needs}
@@ -14,11 +15,11 @@ wake-plain-requires c κs = search needs
 enum-told-2 : tie.Need-enum-told-2
 enum-told-2 c = search needs
 
-mark-touched-requires : tie.Need-mark-touched-requires
-mark-touched-requires c κs = ready-lined _ (c .before .before .before .pre .1 .0)
-
 returns : tie.Need-returns
-returns c = wakes-nobody _ _ _ _ (c .before .before .before .before .before .pre .1 .0) (c .before .before .before .enum-told2 .given .1) _ (c .before .mark-touched .ensures) (c .if1 .taken)
+returns c = wakes-nobody _ _ _ _ (c .before .enum-told2 .given .1) (c .before .before .before .pre .1 .0) (c .if1 .taken)
+
+mark-touched-requires : tie.Need-mark-touched-requires
+mark-touched-requires c κs = let s = c .before .before .before .before in (s .pre .0, ready-lined _ (s .pre .1 .0))
 
 wake-quick-requires : tie.Need-wake-quick-requires
 wake-quick-requires c κs = search needs
@@ -27,7 +28,7 @@ returns-2 : tie.Need-returns-2
 returns-2 c = wakes-plain _ _ _ _ (c .before .before .before .before .enum-told .given .1) (c .wake-plain .ensures)
 
 returns-3 : tie.Need-returns-3
-returns-3 c = wakes-quick _ _ _ _ (c .before .before .before .before .before .before .before .before .before .pre .1 .0) (c .before .before .before .before .before .before .before .enum-told2 .given .1) _ (c .before .before .before .before .before .mark-touched .ensures) (c .wake-quick .ensures)
+returns-3 c = wakes-quick _ _ _ _ (c .before .before .before .before .before .before .before .enum-told2 .given .1) _ (c .before .before .before .before .mark-touched .ensures) (c .wake-quick .ensures)
 
 pub wake-spec : {M : Type 1} → statement M
 wake-spec =
@@ -36,8 +37,8 @@ wake-spec =
     enum-told
     wake-plain-requires
     enum-told-2
-    mark-touched-requires
     returns
+    mark-touched-requires
     wake-quick-requires
     returns-2
     returns-3)

@@ -72,22 +72,22 @@ add-looks c = search needs
 
 look-requires : tie.Need-look-requires Inv-loop μ-loop Inv-rounds μ-rounds
 look-requires c κs =
-    let d = c .before .before .before .before .before in
+    let d = c .before .before .before in
     let o = d .before .before .before .before .before .before .before .before .rounds in
     let l = d .before .before .before .before .before .loop in
     rw (l .inv .0, l .inv .1) (settleable (lent d) (o .inv .0 .ready) (l .i) (within (lent d) (o .inv .0 .ready) (l .i) (there d)))
 
-judged : (c : tie.After-look Inv-loop μ-loop Inv-rounds μ-rounds) → let d = c .before .before .before .before .before .before in
-    JudgedAs (worldIn (lent d) .table) (getD (worldIn (lent d) .queue) (d .before .before .before .before .before .loop .i) noSleeper) (c .look .result .outcome) (record { values = c .look .last .1 .1 .1 .0; adjustments = c .look .last .1 .1 .1 .1 .0 })
+judged : (c : tie.After-look Inv-loop μ-loop Inv-rounds μ-rounds) → let d = c .before .before .before .before in
+    JudgedAs (worldIn (lent d) .table) (getD (worldIn (lent d) .queue) (d .before .before .before .before .before .loop .i) noSleeper) (c .look .result .outcome) (record { values = c .look .result .values; adjustments = c .look .result .undo })
 judged c =
-    let d = c .before .before .before .before .before .before in
+    let d = c .before .before .before .before in
     let l = d .before .before .before .before .before .loop in
     judged-in (lent d) (l .i) (rw (l .inv .0, l .inv .1) at (c .look .ensures .0))
 
 finish-requires : tie.Need-finish-requires Inv-loop μ-loop Inv-rounds μ-rounds
 finish-requires c κs =
     let e = c .before .before .before .before .before in
-    let d = e .before .before .before .before .before .before in
+    let d = e .before .before .before .before in
     let o = d .before .before .before .before .before .before .before .before .rounds in
     let l = d .before .before .before .before .before .loop in
     rw (l .inv .0, l .inv .1, l .inv .2, l .inv .3)
@@ -100,19 +100,19 @@ finish-requires c κs =
 
 add-woken : tie.Need-add-woken Inv-loop μ-loop Inv-rounds μ-rounds
 add-woken c =
-    let d = c .before .before .before .before .before .before .before .before .before .before .before .before in
+    let d = c .before .before .before .before .before .before .before .before .before .before in
     let o = d .before .before .before .before .before .before .before .before .rounds in
     let l = d .before .before .before .before .before .loop in
     record { fits = omega (arith, l .inv .3, woken-few (lent d) (o .inv .0 .ready) (l .i) (there d)) }
 
 -- what a finished sleeper leaves, and the rule from there on
-left : (c : tie.After-finish Inv-loop μ-loop Inv-rounds μ-rounds) → let d = c .before .before .before .before .before .before .before .before .before .before .before .before in let o = d .before .before .before .before .before .before .before .before .rounds in
+left : (c : tie.After-finish Inv-loop μ-loop Inv-rounds μ-rounds) → let d = c .before .before .before .before .before .before .before .before .before .before in let o = d .before .before .before .before .before .before .before .before .rounds in
     lentIn (c .finish .last .0) (c .finish .last .1 .0) (c .finish .last .1 .1 .0) (o .woken + 1) ≡ lentWith (lent d) (finish (worldIn (lent d)) (d .before .before .before .before .before .loop .i))
-left c = let l = c .before .before .before .before .before .before .before .before .before .before .before .before .before .before .before .before .before .loop in rw (l .inv .0, l .inv .1, l .inv .2, l .inv .3) at (c .finish .ensures)
+left c = let l = c .before .before .before .before .before .before .before .before .before .before .before .before .before .before .before .loop in rw (l .inv .0, l .inv .1, l .inv .2, l .inv .3) at (c .finish .ensures)
 
 abbrev Next : tie.After-finish Inv-loop μ-loop Inv-rounds μ-rounds → Type 0
 Next c =
-    let d = c .before .before .before .before .before .before .before .before .before .before .before .before in
+    let d = c .before .before .before .before .before .before .before .before .before .before in
     let o = d .before .before .before .before .before .before .before .before .rounds in
     let l = d .before .before .before .before .before .loop in
     let s = d .before .before .before .before .before .before .before .before .before .args in
@@ -121,10 +121,10 @@ Next c =
 
 next : (c : tie.After-finish Inv-loop μ-loop Inv-rounds μ-rounds) → Next c
 next c =
-    let d = c .before .before .before .before .before .before .before .before .before .before .before .before in
+    let d = c .before .before .before .before .before .before .before .before .before .before in
     let o = d .before .before .before .before .before .before .before .before .rounds in
     let l = d .before .before .before .before .before .loop in
-    plain-again-here _ (lent d) (o .inv .0 .ready) (o .looks) (l .i) (l .looks) (l .inv .4) (there d) (sym (at-slot d) ∙ c .before .before .before .before .before .before .before .before .before .before .before .if1 .taken) (judged (c .before .before .before .before .before .before))
+    plain-again-here _ (lent d) (o .inv .0 .ready) (o .looks) (l .i) (l .looks) (l .inv .4) (there d) (sym (at-slot d) ∙ c .before .before .before .before .before .before .before .before .before .if1 .taken) (judged (c .before .before .before .before .before .before))
     _ (o .inv .0) (sym (c .before .before .before .before .before .finishes .ensures) ∙ c .before .before .before .before .if2 .taken) (left c)
 
 rounds-less : tie.Need-rounds-less Inv-loop μ-loop Inv-rounds μ-rounds
@@ -132,7 +132,7 @@ rounds-less c = next c .fewer
 
 rounds-again : tie.Need-rounds-again Inv-loop μ-loop Inv-rounds μ-rounds
 rounds-again c =
-    let d = c .before .before .before .before .before .before .before .before .before .before .before .before in
+    let d = c .before .before .before .before .before .before .before .before .before .before in
     let o = d .before .before .before .before .before .before .before .before .rounds in
     let l = d .before .before .before .before .before .loop in
     rw (l .inv .3) (next c .begins, next c .same ∙ o .inv .1)
@@ -148,7 +148,7 @@ loop-again c =
       l .inv .2,
       l .inv .3,
       ⊎-elim
-          (λ v. rw (v .8) (plain-goes-on _ (lent d) r (o .looks) (l .i) (l .looks) (l .inv .4) (there d) (sym (at-slot d) ∙ v .0 .taken) (judged-in (lent d) (l .i) (rw (l .inv .0, l .inv .1) at (v .5 .ensures .0))) (sym (v .6 .ensures) ∙ v .7 .left)))
+          (λ v. rw (v .6) (plain-goes-on _ (lent d) r (o .looks) (l .i) (l .looks) (l .inv .4) (there d) (sym (at-slot d) ∙ v .0 .taken) (judged-in (lent d) (l .i) (rw (l .inv .0, l .inv .1) at (v .3 .ensures .0))) (sym (v .4 .ensures) ∙ v .5 .left)))
           (λ v. rw (v .1) (plain-skips _ (lent d) r (o .looks) (l .i) (l .looks) (l .inv .4) (there d) (λ e. v .0 .left (at-slot d ∙ e))))
           (c .if1 .came),
     )

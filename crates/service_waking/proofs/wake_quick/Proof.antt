@@ -1,22 +1,28 @@
 -- `service_waking::wake_quick` meets its contract.
-use Prim.Native.Nat.{_-_, _+_, _<_}
-use mathlib.Core.Path.{_≡_, refl, sym, subst, _∙_}
+use Prim.Native.Nat.{ℕ, _-_, _+_, _<_}
+use mathlib.Core.Path.{_≡_, refl, sym, ap, ap₂, subst, subst⁻¹, _∙_}
 use mathlib.Core.Logic.{⊎-elim}
 use native.Mathlib.Omega.{arith}
+use mathlib.Core.List.{List}
+use lib.IntN.{ℤ}
 use lib.ListN.{getD}
 use borrow.Author.Needs.{needs}
-use Rattle.model.specs.State.{noSleeper}
+use Rattle.model.specs.declared.Copies.{Copies}
+use Rattle.model.specs.declared.Outcome.{Outcome}
+use Rattle.model.specs.Limits.{semaphores}
+use Rattle.model.specs.State.{noSleeper, row}
 use Rattle.model.specs.Marks.{bitOf}
 use Rattle.model.specs.Waking.{finish}
-use Rattle.host.specs.Parts.{order, sleepsAt, rowIn}
-use Rattle.host.specs.Holding.{entry, asleepIn}
+use Rattle.host.specs.Parts.{values, order, sleepsAt, rowIn}
+use Rattle.host.specs.Rows.{from}
+use Rattle.host.specs.Holding.{hostIn, entry, asleepIn, tableIn, queueIn}
 use Rattle.host.specs.Queue.{Lined}
-use Rattle.service_waking.specs.Lent.{Lent, lentIn, worldIn, lentWith, JudgedAs, quickly}
+use Rattle.service_waking.specs.Lent.{Lent, lentIn, worldIn, lentWith, JudgedAs, Settleable, Finishable, quickly}
 use Rattle.service_waking.proofs.LentLaws.{asleep-few, within, woken-few, is-process, ready-lined}
 use Rattle.service_waking.proofs.LookLaws.{values-in}
 use Rattle.service_waking.proofs.SettleLaws.{settleable, judged-in}
 use Rattle.service_waking.proofs.WakingLoops.{Begun, begun, begun-next, Again}
-use Rattle.service_waking.proofs.QuickLoops.{QuickTurn, quick-first, quick-skips, quick-passes, quick-goes-on, quick-few, quick-again-here, quick-done}
+use Rattle.service_waking.proofs.QuickLoops.{QuickTurn, quick-first, quick-skips, quick-passes, quick-goes-on, quick-few, quick-again-here, quick-done, quick-spent}
 use Rattle.service_waking.proofs.wake_quick.Statement.{statement}
 use Rattle.service_waking.proofs.wake_quick.Tie as tie
 
@@ -71,104 +77,148 @@ loop-less c = search needs
 add-looks : tie.Need-add-looks Inv-loop μ-loop Inv-rounds μ-rounds
 add-looks c = search needs
 
+-- ---- the parts of a turn: the round and the position it is at, and what came before
+
+abbrev turn : tie.After-process-at Inv-loop μ-loop Inv-rounds μ-rounds → tie.At-loop Inv-loop μ-loop Inv-rounds μ-rounds
+turn c = c .before .before .before .before
+
+abbrev round : tie.At-loop Inv-loop μ-loop Inv-rounds μ-rounds → tie.At-rounds Inv-loop μ-loop Inv-rounds μ-rounds
+round c = c .before .before .before
+
+abbrev of-look : tie.After-look Inv-loop μ-loop Inv-rounds μ-rounds → tie.After-slot-at Inv-loop μ-loop Inv-rounds μ-rounds
+of-look c = c .before .before .before .before
+
+abbrev of-finish : tie.After-finish Inv-loop μ-loop Inv-rounds μ-rounds → tie.After-look Inv-loop μ-loop Inv-rounds μ-rounds
+of-finish c = c .before .before .before .before .before .before .before .before
+
+abbrev of-slot : tie.After-slot-at Inv-loop μ-loop Inv-rounds μ-rounds → tie.After-bit-of Inv-loop μ-loop Inv-rounds μ-rounds
+of-slot c = c .before .before .before
+
+abbrev of-marks : tie.After-mark-touched Inv-loop μ-loop Inv-rounds μ-rounds → tie.After-finish Inv-loop μ-loop Inv-rounds μ-rounds
+of-marks c = c .before .before .before .before .before
+
 -- what is lent where the round began
-abbrev lent : tie.After-process-at Inv-loop μ-loop Inv-rounds μ-rounds → Lent
-lent c = let o = c .before .before .before .before .before .before .rounds in lentIn (o .host) (o .adjustments) (o .wakings) (o .woken)
+abbrev lent : tie.At-loop Inv-loop μ-loop Inv-rounds μ-rounds → Lent
+lent t = let o = round t .rounds in lentIn (o .host) (o .adjustments) (o .wakings) (o .woken)
+
+-- .. is lent still
+same : (t : tie.At-loop Inv-loop μ-loop Inv-rounds μ-rounds) → lentIn (t .loop .host) (t .loop .adjustments) (t .loop .wakings) (t .loop .woken) ≡ lent t
+same t =
+    let l = t .loop in
+    let o = round t .rounds in
+    ap₂ (λ (h : List ℕ) (a : List ℤ). lentIn h a (l .wakings) (l .woken)) (l .inv .0) (l .inv .1) ∙ ap₂ (lentIn (o .host) (o .adjustments)) (l .inv .2) (l .inv .3)
 
 -- the sleeper of this turn is there: its process, its bit and its slot
-there : (c : tie.After-process-at Inv-loop μ-loop Inv-rounds μ-rounds) → c .before .before .before .loop .i < asleepIn (rowIn (c .before .before .before .before .before .before .rounds .host))
-there c = rw (c .before .before .before .before .asleep-of .ensures) at (c .before .before .loop-test .taken)
+there : (c : tie.After-process-at Inv-loop μ-loop Inv-rounds μ-rounds) → turn c .loop .i < asleepIn (rowIn (round (turn c) .rounds .host))
+there c = rw (turn c .before .asleep-of .ensures) at (c .before .before .before .loop-test .taken)
 
-at-process : (c : tie.After-process-at Inv-loop μ-loop Inv-rounds μ-rounds) → c .process-at .result ≡ getD (rowIn (c .before .before .before .before .before .before .rounds .host) order) (c .before .before .before .loop .i) 0
-at-process c = rw (c .before .before .before .loop .inv .0) at (c .process-at .ensures)
+at-process : (c : tie.After-process-at Inv-loop μ-loop Inv-rounds μ-rounds) → c .process-at .result ≡ getD (rowIn (round (turn c) .rounds .host) order) (turn c .loop .i) 0
+at-process c = rw (turn c .loop .inv .0) at (c .process-at .ensures)
 
-at-bit : (c : tie.After-bit-of Inv-loop μ-loop Inv-rounds μ-rounds) → let d = c .before in c .bit-of .result ≡ bitOf (getD (rowIn (d .before .before .before .before .before .before .rounds .host) order) (d .before .before .before .loop .i) 0)
+at-bit : (c : tie.After-bit-of Inv-loop μ-loop Inv-rounds μ-rounds) → let t = turn (c .before) in c .bit-of .result ≡ bitOf (getD (rowIn (round t .rounds .host) order) (t .loop .i) 0)
 at-bit c = rw (at-process (c .before)) at (c .bit-of .ensures)
 
-at-slot : (c : tie.After-slot-at Inv-loop μ-loop Inv-rounds μ-rounds) → let d = c .before .before .before .before in let r = rowIn (d .before .before .before .before .before .before .rounds .host) in c .slot-at .result ≡ getD (r sleepsAt) (entry (getD (r order) (d .before .before .before .loop .i) 0)) 0
-at-slot c = let d = c .before .before .before .before in rw (at-process d, d .before .before .before .loop .inv .0) at (c .slot-at .ensures)
+read-slot : (d : tie.After-process-at Inv-loop μ-loop Inv-rounds μ-rounds) {slot : ℕ} → let r = rowIn (round (turn d) .rounds .host) in
+    slot ≡ getD (rowIn (turn d .loop .host) sleepsAt) (entry (d .process-at .result)) 0 → slot ≡ getD (r sleepsAt) (entry (getD (r order) (turn d .loop .i) 0)) 0
+read-slot d e = e ∙ ap₂ (λ (h : List ℕ) (p : ℕ). getD (rowIn h sleepsAt) (entry p) 0) (turn d .loop .inv .0) (at-process d)
+
+at-slot : (c : tie.After-slot-at Inv-loop μ-loop Inv-rounds μ-rounds) → let t = turn (of-slot c .before) in let r = rowIn (round t .rounds .host) in c .slot-at .result ≡ getD (r sleepsAt) (entry (getD (r order) (t .loop .i) 0)) 0
+at-slot c = read-slot (of-slot c .before) (c .slot-at .ensures)
 
 bit-of-requires : tie.Need-bit-of-requires Inv-loop μ-loop Inv-rounds μ-rounds
 bit-of-requires c κs =
-    let o = c .before .before .before .before .before .before .rounds in
-    rw (at-process c) (is-process (lent c) (o .inv .0 .ready) (c .before .before .before .loop .i) (there c))
+    let t = turn c in
+    rw (at-process c) (is-process (lent t) (round t .rounds .inv .0 .ready) (t .loop .i) (there c))
 
 look-requires : tie.Need-look-requires Inv-loop μ-loop Inv-rounds μ-rounds
 look-requires c κs =
-    let d = c .before .before .before .before .before .before .before .before .before in
-    let o = d .before .before .before .before .before .before .rounds in
-    let l = d .before .before .before .loop in
-    rw (l .inv .0, l .inv .1) (settleable (lent d) (o .inv .0 .ready) (l .i) (within (lent d) (o .inv .0 .ready) (l .i) (there d)))
+    let d = of-slot (c .before .before .before) .before in
+    let t = turn d in
+    let r = round t .rounds .inv .0 .ready in
+    subst⁻¹ (λ (y : Lent). Settleable (y .host) (t .loop .i)) (same t) (settleable (lent t) r (t .loop .i) (within (lent t) r (t .loop .i) (there d)))
 
-judged : (c : tie.After-look Inv-loop μ-loop Inv-rounds μ-rounds) → let d = c .before .before .before .before .before .before .before .before .before .before in
-    JudgedAs (worldIn (lent d) .table) (getD (worldIn (lent d) .queue) (d .before .before .before .loop .i) noSleeper) (c .look .result .outcome) (record { values = c .look .last .1 .1 .1 .0; adjustments = c .look .last .1 .1 .1 .1 .0 })
-judged c =
-    let d = c .before .before .before .before .before .before .before .before .before .before in
-    let l = d .before .before .before .loop in
-    judged-in (lent d) (l .i) (rw (l .inv .0, l .inv .1) at (c .look .ensures .0))
+-- how an array was judged on what is lent
+looked-at : (t : tie.At-loop Inv-loop μ-loop Inv-rounds μ-rounds) {o : Outcome} {k : Copies}
+    → JudgedAs (tableIn (hostIn (t .loop .host) (t .loop .adjustments))) (getD (queueIn (rowIn (t .loop .host))) (t .loop .i) noSleeper) o k
+    → JudgedAs (worldIn (lent t) .table) (getD (worldIn (lent t) .queue) (t .loop .i) noSleeper) o k
+looked-at t {o} {k} j = judged-in (lent t) (t .loop .i) (subst (λ (y : Lent). JudgedAs (tableIn (y .host)) (getD (queueIn (y .host .row)) (t .loop .i) noSleeper) o k) (same t) j)
+
+judged : (c : tie.After-look Inv-loop μ-loop Inv-rounds μ-rounds) → let t = turn (of-slot (of-look c) .before) in
+    JudgedAs (worldIn (lent t) .table) (getD (worldIn (lent t) .queue) (t .loop .i) noSleeper) (c .look .result .outcome) (record { values = c .look .result .values; adjustments = c .look .result .undo })
+judged c = let t = turn (of-slot (of-look c) .before) in looked-at t (c .look .ensures .0)
 
 finish-requires : tie.Need-finish-requires Inv-loop μ-loop Inv-rounds μ-rounds
 finish-requires c κs =
     let e = c .before .before .before .before .before .before .before in
-    let d = e .before .before .before .before .before .before .before .before .before .before in
-    let o = d .before .before .before .before .before .before .rounds in
-    let l = d .before .before .before .loop in
-    rw (l .inv .0, l .inv .1, l .inv .2, l .inv .3)
+    let d = of-slot (of-look e) .before in
+    let t = turn d in
+    let r = round t .rounds .inv .0 .ready in
+    subst⁻¹ (λ (y : Lent). Finishable y (t .loop .i) (e .look .result .outcome) (record { values = e .look .result .values; adjustments = e .look .result .undo })) (same t)
     (record {
-      ready = o .inv .0 .ready;
-      there = within (lent d) (o .inv .0 .ready) (l .i) (there d);
-      finished = sym (c .before .before .before .before .before .before .finishes .ensures) ∙ c .before .before .before .before .before .if3 .taken;
+      ready = r;
+      there = within (lent t) r (t .loop .i) (there d);
+      finished = sym (c .before .before .before .before .before .before .finishes .ensures) ∙ c .before .before .before .before .before .if4 .taken;
       judged = judged e;
     })
 
 add-woken : tie.Need-add-woken Inv-loop μ-loop Inv-rounds μ-rounds
 add-woken c =
-    let d = c .before .before .before .before .before .before .before .before .before .before .before .before .before .before .before .before .before .before in
-    let o = d .before .before .before .before .before .before .rounds in
-    let l = d .before .before .before .loop in
-    record { fits = omega (arith, l .inv .3, woken-few (lent d) (o .inv .0 .ready) (l .i) (there d)) }
+    let d = of-slot (of-look (of-finish c)) .before in
+    let t = turn d in
+    record { fits = omega (arith, t .loop .inv .3, woken-few (lent t) (round t .rounds .inv .0 .ready) (t .loop .i) (there d)) }
 
 -- what a finished sleeper leaves, and the rule from there on
-left : (c : tie.After-finish Inv-loop μ-loop Inv-rounds μ-rounds) → let d = c .before .before .before .before .before .before .before .before .before .before .before .before .before .before .before .before .before .before in let o = d .before .before .before .before .before .before .rounds in
-    lentIn (c .finish .last .0) (c .finish .last .1 .0) (c .finish .last .1 .1 .0) (o .woken + 1) ≡ lentWith (lent d) (finish (worldIn (lent d)) (d .before .before .before .loop .i))
-left c = let l = c .before .before .before .before .before .before .before .before .before .before .before .before .before .before .before .before .before .before .before .before .before .loop in rw (l .inv .0, l .inv .1, l .inv .2, l .inv .3) at (c .finish .ensures)
+left : (c : tie.After-finish Inv-loop μ-loop Inv-rounds μ-rounds) → let t = turn (of-slot (of-look (of-finish c)) .before) in
+    lentIn (c .finish .last .0) (c .finish .last .1 .0) (c .finish .last .1 .1 .0) (round t .rounds .woken + 1) ≡ lentWith (lent t) (finish (worldIn (lent t)) (t .loop .i))
+left c =
+    let t = turn (of-slot (of-look (of-finish c)) .before) in
+    ap (λ (n : ℕ). lentIn (c .finish .last .0) (c .finish .last .1 .0) (c .finish .last .1 .1 .0) (n + 1)) (sym (t .loop .inv .3))
+    ∙ c .finish .ensures
+    ∙ ap (λ (y : Lent). lentWith y (finish (worldIn y) (t .loop .i))) (same t)
 
 lined : (c : tie.After-finish Inv-loop μ-loop Inv-rounds μ-rounds) → Lined (rowIn (c .finish .last .0))
 lined c =
-    let d = c .before .before .before .before .before .before .before .before .before .before .before .before .before .before .before .before .before .before in
-    let o = d .before .before .before .before .before .before .rounds in
-    let l = d .before .before .before .loop in
+    let d = of-slot (of-look (of-finish c)) .before in
+    let t = turn d in
+    let o = round t .rounds in
+    let l = t .loop in
     subst (λ (y : Lent). Lined (y .host .row)) (sym (left c))
-    (ready-lined _ (begun-next _ (lent d) (o .looks) (l .i) (l .looks + 1) (o .inv .0) (there d) (omega (arith, l .inv .4 .looks, there d, asleep-few (lent d) (o .inv .0 .ready))) .ready))
+    (ready-lined _ (begun-next _ (lent t) (o .looks) (l .i) (l .looks + 1) (o .inv .0) (there d) (omega (arith, l .inv .4 .looks, there d, asleep-few (lent t) (o .inv .0 .ready))) .ready))
 
 mark-touched-requires : tie.Need-mark-touched-requires Inv-loop μ-loop Inv-rounds μ-rounds
-mark-touched-requires c κs = lined (c .before .before .before .before)
+mark-touched-requires c κs =
+    let f = c .before .before .before .before in
+    (round (turn (of-slot (of-look (of-finish f)) .before)) .before .pre .0, lined f)
 
 abbrev Next : tie.After-mark-touched Inv-loop μ-loop Inv-rounds μ-rounds → Type 0
 Next c =
-    let f = c .before .before .before .before .before in
-    let d = f .before .before .before .before .before .before .before .before .before .before .before .before .before .before .before .before .before .before in
-    let o = d .before .before .before .before .before .before .rounds in
-    let l = d .before .before .before .loop in
-    let s = d .before .before .before .before .before .before .before .args in
-    let b = f .before .before .before .before .before .before .before .before .before .before .before .before .before .before .before .before .before in
-    Again (s .start .looks) (lent d) (o .looks) (l .i) (l .looks + 1) (o .inv .0) (there d)
-    (quick-few (s .slot) (lent d) (o .inv .0 .ready) (o .looks) (o .marks) (l .i) (l .looks) (l .marks) (l .inv .4) (there d) (b .bit-of .result) (at-bit b) (f .before .before .before .before .before .before .before .before .before .before .before .before .before .before .before .before .if1 .taken) (sym (at-slot (f .before .before .before .before .before .before .before .before .before .before .before .before .before .before)) ∙ f .before .before .before .before .before .before .before .before .before .before .before .before .before .if2 .taken) (judged (f .before .before .before .before .before .before .before .before)))
+    let f = of-marks c in
+    let e = of-finish f in
+    let p = of-look e in
+    let b = of-slot p in
+    let t = turn (b .before) in
+    let o = round t .rounds in
+    let l = t .loop in
+    let s = round t .before .args in
+    Again (s .start .looks) (lent t) (o .looks) (l .i) (l .looks + 1) (o .inv .0) (there (b .before))
+    (quick-few (s .slot) (lent t) (o .inv .0 .ready) (o .looks) (o .marks) (l .i) (l .looks) (l .marks) (l .inv .4) (there (b .before)) (b .bit-of .result) (at-bit b) (p .before .before .if2 .taken) (sym (at-slot p) ∙ e .before .before .before .if3 .taken) (judged e))
     (quickly (s .slot) (c .mark-touched .result)) (quickly (s .slot) (o .marks)) (lentIn (f .finish .last .0) (f .finish .last .1 .0) (f .finish .last .1 .1 .0) (o .woken + 1))
 
 next : (c : tie.After-mark-touched Inv-loop μ-loop Inv-rounds μ-rounds) → Next c
 next c =
-    let f = c .before .before .before .before .before in
-    let d = f .before .before .before .before .before .before .before .before .before .before .before .before .before .before .before .before .before .before in
-    let o = d .before .before .before .before .before .before .rounds in
-    let l = d .before .before .before .loop in
-    let s = d .before .before .before .before .before .before .before in
-    let b = f .before .before .before .before .before .before .before .before .before .before .before .before .before .before .before .before .before in
-    quick-again-here (s .args .slot) (lent d) (o .inv .0 .ready) (o .looks) (o .marks) (l .i) (l .looks) (l .marks) (l .inv .4) (there d) (b .bit-of .result) (at-bit b) (f .before .before .before .before .before .before .before .before .before .before .before .before .before .before .before .before .if1 .taken)
-    (sym (at-slot (f .before .before .before .before .before .before .before .before .before .before .before .before .before .before)) ∙ f .before .before .before .before .before .before .before .before .before .before .before .before .before .if2 .taken) (judged (f .before .before .before .before .before .before .before .before))
-    _ (o .inv .0) (sym (f .before .before .before .before .before .before .before .finishes .ensures) ∙ f .before .before .before .before .before .before .if3 .taken) (left f)
-    (f .before .before .before .before .values-of .result) (c .before .before .before .values-of2 .result)
-    (rw (l .inv .0) at (f .before .before .before .before .values-of .ensures) ∙ values-in (o .host) (o .adjustments) (s .args .slot) (s .pre .0))
+    let f = of-marks c in
+    let e = of-finish f in
+    let p = of-look e in
+    let b = of-slot p in
+    let t = turn (b .before) in
+    let o = round t .rounds in
+    let l = t .loop in
+    let s = round t .before in
+    let v = f .before .before .before .before in
+    quick-again-here (s .args .slot) (lent t) (o .inv .0 .ready) (o .looks) (o .marks) (l .i) (l .looks) (l .marks) (l .inv .4) (there (b .before)) (b .bit-of .result) (at-bit b) (p .before .before .if2 .taken) (sym (at-slot p) ∙ e .before .before .before .if3 .taken) (judged e)
+    _ (o .inv .0) (sym (v .before .before .before .finishes .ensures) ∙ v .before .before .if4 .taken) (left f)
+    (v .values-of .result) (c .before .before .before .values-of2 .result)
+    (v .values-of .ensures ∙ ap (λ (h : List ℕ). from 0 semaphores (row (s .args .slot)) (rowIn h values)) (l .inv .0) ∙ values-in (o .host) (o .adjustments) (s .args .slot) (s .pre .0))
     (c .before .before .before .values-of2 .ensures ∙ values-in (f .finish .last .0) (f .finish .last .1 .0) (s .args .slot) (s .pre .0))
     (c .mark-touched .result) (rw (c .before .before .differing-mask .ensures) at (c .mark-touched .ensures))
 
@@ -177,38 +227,48 @@ rounds-less c = next c .fewer
 
 rounds-again : tie.Need-rounds-again Inv-loop μ-loop Inv-rounds μ-rounds
 rounds-again c =
-    let d = c .before .before .before .before .before .before .before .before .before .before .before .before .before .before .before .before .before .before .before .before .before .before .before in
-    let o = d .before .before .before .before .before .before .rounds in
-    let l = d .before .before .before .loop in
-    rw (l .inv .3) (next c .begins, next c .same ∙ o .inv .1)
+    let t = turn (of-slot (of-look (of-finish (of-marks c))) .before) in
+    rw (t .loop .inv .3) (next c .begins, next c .same ∙ round t .rounds .inv .1)
 
 loop-again : tie.Need-loop-again Inv-loop μ-loop Inv-rounds μ-rounds
 loop-again c =
     let b = c .before in
     let d = b .before in
-    let o = d .before .before .before .before .before .before .rounds in
-    let l = d .before .before .before .loop in
+    let t = turn d in
+    let o = round t .rounds in
+    let l = t .loop in
     let r = o .inv .0 .ready in (
       l .inv .0,
       l .inv .1,
       l .inv .2,
       l .inv .3,
       ⊎-elim
-          (λ v. rw (v .11, v .12) (quick-goes-on _ (lent d) r (o .looks) (o .marks) (l .i) (l .looks) (l .marks) (l .inv .4) (there d) (b .bit-of .result) (at-bit b) (v .0 .taken) (sym (rw (at-process d, l .inv .0) at (v .2 .ensures)) ∙ v .3 .taken) (judged-in (lent d) (l .i) (rw (l .inv .0, l .inv .1) at (v .8 .ensures .0))) (sym (v .9 .ensures) ∙ v .10 .left)))
+          (λ v. rw (v .9, v .10) (quick-goes-on _ (lent t) r (o .looks) (o .marks) (l .i) (l .looks) (l .marks) (l .inv .4) (there d) (b .bit-of .result) (at-bit b) (v .0 .taken) (sym (read-slot d (v .2 .ensures)) ∙ v .3 .taken) (looked-at t (v .6 .ensures .0)) (sym (v .7 .ensures) ∙ v .8 .left)))
           (λ w. ⊎-elim
-          (λ v. rw (v .4, v .5) (quick-skips _ (lent d) r (o .looks) (o .marks) (l .i) (l .looks) (l .marks) (l .inv .4) (there d) (λ e. v .3 .left ((rw (at-process d, l .inv .0) at (v .2 .ensures)) ∙ e))))
-          (λ v. rw (v .1, v .2) (quick-passes _ (lent d) r (o .looks) (o .marks) (l .i) (l .looks) (l .marks) (l .inv .4) (there d) (b .bit-of .result) (at-bit b) (v .0 .left)))
+          (λ v. rw (v .4, v .5) (quick-skips _ (lent t) r (o .looks) (o .marks) (l .i) (l .looks) (l .marks) (l .inv .4) (there d) (λ e. v .3 .left (read-slot d (v .2 .ensures) ∙ e))))
+          (λ v. rw (v .1, v .2) (quick-passes _ (lent t) r (o .looks) (o .marks) (l .i) (l .looks) (l .marks) (l .inv .4) (there d) (b .bit-of .result) (at-bit b) (v .0 .left)))
           w)
-          (c .if1 .came),
+          (c .if2 .came),
     )
 
+-- the end: the round has come to the last sleeper, or no mark is left
 returns : tie.Need-returns Inv-loop μ-loop Inv-rounds μ-rounds
 returns c =
-    let o = c .before .before .before .before .rounds in
-    let l = c .before .loop in
-    let x = lentIn (o .host) (o .adjustments) (o .wakings) (o .woken) in
-    rw (l .inv .0, l .inv .1, l .inv .2, l .inv .3)
-    (quick-done _ x (o .inv .0 .ready) (o .looks) (o .marks) (l .i) (l .looks) (l .marks) (l .inv .4) (rw (c .before .before .asleep-of .ensures) at (c .loop-test .left)) ∙ o .inv .1)
+    let t = c .before in
+    let o = round t .rounds in
+    let l = t .loop in
+    ap (λ (y : Lent). record { lent = y; looks = l .looks }) (same t)
+    ∙ quick-done _ (lent t) (o .inv .0 .ready) (o .looks) (o .marks) (l .i) (l .looks) (l .marks) (l .inv .4) (rw (t .before .asleep-of .ensures) at (c .loop-test .left))
+    ∙ o .inv .1
+
+returns-2 : tie.Need-returns-2 Inv-loop μ-loop Inv-rounds μ-rounds
+returns-2 c =
+    let t = c .before .before in
+    let o = round t .rounds in
+    let l = t .loop in
+    ap (λ (y : Lent). record { lent = y; looks = l .looks }) (same t)
+    ∙ quick-spent _ (lent t) (o .inv .0 .ready) (o .looks) (o .marks) (l .i) (l .looks) (l .marks) (l .inv .4) (c .if1 .taken)
+    ∙ o .inv .1
 
 pub wake-quick-spec : {M : Type 1} → statement M
 wake-quick-spec =
@@ -238,4 +298,5 @@ wake-quick-spec =
     add-i
     loop-less
     loop-again
-    returns)
+    returns
+    returns-2)

@@ -52,7 +52,7 @@ add-at : tie.Need-add-at
 add-at c = omega (arith, small c .0)
 
 all-waiters-requires : tie.Need-all-waiters-requires
-all-waiters-requires c κs = (of-slot c .pre, small c .1)
+all-waiters-requires c κs = (of-slot c .pre, small c)
 
 value-at-requires : tie.Need-value-at-requires
 value-at-requires c κs = search needs
