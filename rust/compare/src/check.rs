@@ -1,7 +1,8 @@
 //! What the programs wrote for one file, and the first difference between them.
 
-use second::{Event, RunFile};
+use second::RunFile;
 
+use crate::events::{self, EVENTS};
 use crate::program::{Feed, Program};
 
 /// The programs that are compared.
@@ -89,10 +90,10 @@ fn without_looks(text: &[u8], file: &[u8]) -> Vec<u8> {
     };
     let mut lines = lines_of(text);
     let mut rest = lines.next().unwrap_or_default().to_vec();
-    for (line, event) in lines.zip(run.events()) {
-        let is_query = matches!(event, Event::Query { .. });
+    for (line, body) in lines.zip(run.bodies()) {
+        let asks = EVENTS[events::place(body)].asks;
         for (index, field) in line.split_inclusive(|&byte| byte == b' ').enumerate() {
-            if is_query || index != 3 {
+            if asks || index != 3 {
                 rest.extend_from_slice(field);
             }
         }

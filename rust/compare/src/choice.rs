@@ -1,7 +1,9 @@
 //! Single events, chosen with an eye on what is there.
 
-use second::write::{self, Body, Operation, NOWAIT, UNDO};
+use second::event::{self, Body, Operation};
+use second::{NOWAIT, UNDO};
 
+use crate::events::EVENTS;
 use crate::random::Rng;
 use crate::scene::{Scene, Target};
 
@@ -69,7 +71,7 @@ pub fn operate(scene: &mut Scene) -> Body {
     let most = scene.rng.pick(&[0, 1, 2, 3, 7]);
     let mut array = operations(&mut scene.rng, &target, most);
     array.push(operation(&mut scene.rng, &target));
-    write::operate(caller, target.identifier, &array)
+    event::operate(caller, target.identifier, &array)
 }
 
 /// An operate whose last operation can't go through yet.
@@ -82,7 +84,7 @@ pub fn sleepy(scene: &mut Scene) -> Body {
     let value = target.values[usize::from(number)];
     let amount = if value != 0 && rng.once_in(2) { 0 } else { -value - rng.between(1, 2) };
     array.push((number, narrow(amount), flags(rng) & !NOWAIT));
-    write::operate(caller, target.identifier, &array)
+    event::operate(caller, target.identifier, &array)
 }
 
 /// An event that may well wake somebody.
@@ -98,7 +100,7 @@ pub fn create(scene: &mut Scene) -> Body {
     let rng = &mut scene.rng;
     let count = if rng.once_in(12) { rng.byte() } else { rng.between(1, 8) as u8 };
     let masks = if rng.once_in(3) { [rng.byte() | rng.byte(), rng.byte()] } else { [0xFF; 2] };
-    write::create(count, masks[0], masks[1])
+    event::create(count, masks[0], masks[1])
 }
 
 pub fn set_value(scene: &mut Scene) -> Body {
@@ -114,11 +116,11 @@ pub fn set_value(scene: &mut Scene) -> Body {
         4 => present - 1,
         _ => rng.between(0, 4),
     };
-    write::set_value(target.identifier, number, value)
+    event::set_value(target.identifier, number, value)
 }
 
 pub fn remove(scene: &mut Scene) -> Body {
-    write::remove(scene.target().identifier)
+    event::remove(scene.target().identifier)
 }
 
 pub fn signal(scene: &mut Scene) -> Body {
@@ -126,17 +128,17 @@ pub fn signal(scene: &mut Scene) -> Body {
         [] => scene.process(),
         asleep => scene.rng.pick(asleep),
     };
-    write::signal(process)
+    event::signal(process)
 }
 
 pub fn exit(scene: &mut Scene) -> Body {
-    write::exit(scene.process())
+    event::exit(scene.process())
 }
 
 pub fn query(scene: &mut Scene) -> Body {
     let target = scene.target();
     let number = number(&mut scene.rng, &target);
-    write::query(target.identifier, number)
+    event::query(target.identifier, number)
 }
 
 /// Any event, as often as in everyday traffic.
@@ -165,28 +167,28 @@ pub fn refusal(scene: &mut Scene) -> Body {
     let too_many = vec![operation(rng, &target); rng.pick(&[9, 9, 10, 64])];
     let mut array = operations(rng, &target, 7);
     match rng.below(17) {
-        0 => write::create(rng.pick(&[0, 9, 255]), 0xFF, 0xFF),
-        1 => write::create(rng.between(1, 8) as u8, rng.byte(), rng.byte()),
-        2 => write::operate(outside, rng.pick(&[target.identifier, stranger]), &array),
-        3 => write::operate(process, rng.pick(&[target.identifier, stranger]), &[]),
-        4 => write::operate(process, rng.pick(&[target.identifier, stranger]), &too_many),
+        0 => event::create(rng.pick(&[0, 9, 255]), 0xFF, 0xFF),
+        1 => event::create(rng.between(1, 8) as u8, rng.byte(), rng.byte()),
+        2 => event::operate(outside, rng.pick(&[target.identifier, stranger]), &array),
+        3 => event::operate(process, rng.pick(&[target.identifier, stranger]), &[]),
+        4 => event::operate(process, rng.pick(&[target.identifier, stranger]), &too_many),
         5 | 6 => {
             array.insert(rng.below(array.len() + 1), (beyond, amount(rng, 0), flags(rng)));
             array.truncate(8);
-            write::operate(caller, rng.pick(&[target.identifier, stranger]), &array)
+            event::operate(caller, rng.pick(&[target.identifier, stranger]), &array)
         }
         7 | 8 => {
             array.push((0, narrow(rng.pick(&[0, 1, -1])), flags(rng)));
-            write::operate(process, target.identifier, &array)
+            event::operate(process, target.identifier, &array)
         }
-        9 => write::set_value(stranger, 0, 40_000),
-        10 => write::set_value(target.identifier, beyond, 40_000),
-        11 => write::set_value(target.identifier, 0, rng.pick(&[-1, 32_768, i32::MIN, i32::MAX])),
-        12 => write::remove(stranger),
-        13 => write::signal(outside),
-        14 => write::exit(outside),
-        15 => write::query(stranger, number(rng, &target)),
-        _ => write::query(target.identifier, beyond),
+        9 => event::set_value(stranger, 0, 40_000),
+        10 => event::set_value(target.identifier, beyond, 40_000),
+        11 => event::set_value(target.identifier, 0, rng.pick(&[-1, 32_768, i32::MIN, i32::MAX])),
+        12 => event::remove(stranger),
+        13 => event::signal(outside),
+        14 => event::exit(outside),
+        15 => event::query(stranger, number(rng, &target)),
+        _ => event::query(target.identifier, beyond),
     }
 }
 
@@ -210,20 +212,7 @@ pub fn stale(scene: &mut Scene) -> i32 {
 /// one.
 pub fn random(scene: &mut Scene) -> Body {
     let rng = &mut scene.rng;
-    let (kind, length) = (rng.between(1, 7), rng.pick(&[0, 1, 2, 3, 4, 7, 8, 9]));
+    let (kind, operations) = (rng.pick(&EVENTS), rng.pick(&[0, 1, 2, 3, 4, 7, 8, 9]));
     let mask = if rng.once_in(2) { 3 } else { u64::MAX };
-    let mut field = || rng.next() & mask;
-    match kind {
-        1 => write::create(field() as u8, field() as u8, field() as u8),
-        2 => {
-            let mut operation = |_| (field() as u16, field() as i16, field() as u16);
-            let array: Vec<Operation> = (0..length).map(&mut operation).collect();
-            write::operate(field() as u8, field() as i32, &array)
-        }
-        3 => write::set_value(field() as i32, field() as u16, field() as i32),
-        4 => write::remove(field() as i32),
-        5 => write::signal(field() as u8),
-        6 => write::exit(field() as u8),
-        _ => write::query(field() as i32, field() as u16),
-    }
+    (kind.drawn)(&mut || rng.next() & mask, operations)
 }

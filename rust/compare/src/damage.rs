@@ -1,8 +1,9 @@
 //! Damaged files: every way to earn a bad code, the edges beside them, and random edits.
 
-use second::write::{self, run_file, Body};
-use second::FILE_MAX;
+use second::event::{self, Body};
+use second::{run_file, ENTRY, FILE_MAX, HEAD};
 
+use crate::events::{EVENTS, UNKNOWN};
 use crate::kind::Kind;
 use crate::kind::Make::Bytes;
 use crate::medley;
@@ -10,16 +11,12 @@ use crate::random::Rng;
 use crate::scene::Scene;
 
 pub static DAMAGED: [Kind; 5] = [
-    Kind { name: "cut", make: Bytes(cut), about: "head or table cut off, too long, largest (201)" },
-    Kind { name: "offsets", make: Bytes(offsets), about: "offsets or end not as said (202)" },
-    Kind { name: "kinds", make: Bytes(kinds), about: "unknown kinds (203)" },
-    Kind { name: "lengths", make: Bytes(lengths), about: "bodies empty or of wrong length (204)" },
-    Kind { name: "edited", make: Bytes(edited), about: "good files after random edits" },
+    Kind::new("cut", Bytes(cut), "head or table cut off, too long, largest (201)"),
+    Kind::new("offsets", Bytes(offsets), "offsets or end not as said (202)"),
+    Kind::new("kinds", Bytes(kinds), "unknown kinds (203)"),
+    Kind::new("lengths", Bytes(lengths), "bodies empty or of wrong length (204)"),
+    Kind::new("edited", Bytes(edited), "good files after random edits"),
 ];
-
-/// Bytes of the head, and of one entry of the table.
-const HEAD: usize = 2;
-const ENTRY: usize = 4;
 
 type Way = fn(&mut Rng, Vec<Body>) -> Vec<u8>;
 
@@ -76,7 +73,7 @@ fn edited(mut rng: Rng, limit: usize) -> Vec<u8> {
 fn good_bodies(rng: &mut Rng, limit: usize) -> Vec<Body> {
     let mut bodies = Scene::played(medley::play, Rng::new(rng.next(), 0), limit);
     if bodies.is_empty() {
-        bodies.push(write::exit(1));
+        bodies.push(event::exit(1));
     }
     bodies
 }
@@ -105,8 +102,8 @@ fn of_size(rng: &mut Rng, size: usize) -> Vec<u8> {
     let mut present = run_file(&bodies).len();
     while present < size {
         // With an entry each these have 6, 8, 9 and 11 bytes: any sum from 14 on can be reached.
-        let mut choices = vec![write::exit(1), write::create(1, 1, 1), write::remove(0)];
-        choices.push(write::query(0, 0));
+        let mut choices = vec![event::exit(1), event::create(1, 1, 1), event::remove(0)];
+        choices.push(event::query(0, 0));
         let rest = size - present;
         choices.retain(|body| {
             let left = rest.checked_sub(ENTRY + body.len());
@@ -181,20 +178,15 @@ fn with_body(rng: &mut Rng, mut bodies: Vec<Body>, body: Body) -> Vec<u8> {
 
 /// A good body of any kind, each as often.
 fn body_of_any_kind(rng: &mut Rng) -> Body {
-    match rng.between(1, 7) {
-        1 => write::create(1, 1, 1),
-        2 => write::operate(1, 0, &vec![(0, 1, 0); rng.below(10)]),
-        3 => write::set_value(0, 0, 0),
-        4 => write::remove(0),
-        5 => write::signal(1),
-        6 => write::exit(1),
-        _ => write::query(0, 0),
-    }
+    (rng.pick(&EVENTS).small)(rng)
 }
 
 fn of_unknown_kind(rng: &mut Rng) -> Body {
     let mut body = body_of_any_kind(rng);
-    body[0] = if rng.once_in(3) { rng.pick(&[0, 8]) } else { rng.between(8, 255) as u8 };
+    body[0] = match rng.below(3) {
+        0 => rng.pick(&[0, UNKNOWN]),
+        _ => rng.between(UNKNOWN.into(), 255) as u8,
+    };
     body
 }
 
@@ -226,7 +218,7 @@ fn wrong_length(rng: &mut Rng, bodies: Vec<Body>) -> Vec<u8> {
 
 /// An operate with another number of operations than it has.
 fn wrong_number(rng: &mut Rng, bodies: Vec<Body>) -> Vec<u8> {
-    let mut body = write::operate(1, 0, &vec![(0, 1, 0); rng.below(10)]);
+    let mut body = event::operate(1, 0, &vec![(0, 1, 0); rng.below(10)]);
     body[6] = body[6].wrapping_add(rng.pick(&[1, 2, 43, 128, 255]));
     with_body(rng, bodies, body)
 }

@@ -1,14 +1,15 @@
 //! A kind of files: its name, and how one of them is made.
 
-use second::write::run_file;
+use second::run_file;
 
 use crate::random::Rng;
 use crate::scene::Scene;
 
 pub struct Kind {
     pub name: &'static str,
-    pub about: &'static str,
     pub make: Make,
+    /// What its files are about.
+    pub about: &'static str,
 }
 
 #[derive(Clone, Copy)]
@@ -20,6 +21,10 @@ pub enum Make {
 }
 
 impl Kind {
+    pub const fn new(name: &'static str, make: Make, about: &'static str) -> Kind {
+        Kind { name, make, about }
+    }
+
     /// A file of this kind; a good one is filled up to `limit` bytes.
     pub fn make(&self, rng: Rng, limit: usize) -> Vec<u8> {
         match self.make {

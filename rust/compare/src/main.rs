@@ -6,6 +6,7 @@ mod check;
 mod choice;
 mod damage;
 mod end;
+mod events;
 mod faults;
 mod kind;
 mod medley;

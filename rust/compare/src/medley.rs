@@ -5,52 +5,23 @@ use crate::kind::Make::Script;
 use crate::scene::Scene;
 use crate::script;
 
-pub static MEDLEY: Kind =
-    Kind { name: "medley", make: Script(play), about: "episodes of all the scripts below" };
+pub static MEDLEY: Kind = Kind::new("medley", Script(play), "episodes of all the scripts below");
 
 pub static SCRIPTS: [Kind; 14] = [
-    Kind { name: "mixed", make: Script(script::mixed), about: "everyday traffic" },
-    Kind {
-        name: "dense",
-        make: Script(script::dense),
-        about: "seven and eight asleep, and what wakes them",
-    },
-    Kind { name: "chains", make: Script(script::chain), about: "wake chains as in situation 11" },
-    Kind {
-        name: "undo",
-        make: Script(script::undo),
-        about: "undo to both limits of value and adjustment",
-    },
-    Kind {
-        name: "same",
-        make: Script(script::same_value),
-        about: "set value to the number that is there",
-    },
-    Kind { name: "extremes", make: Script(script::extremes), about: "32,767 and -32,768" },
-    Kind {
-        name: "nowait",
-        make: Script(script::nowait),
-        about: "IPC_NOWAIT in sleeping arrays, wakings with 11",
-    },
-    Kind { name: "range", make: Script(script::range), about: "wakings with 34" },
-    Kind {
-        name: "generations",
-        make: Script(script::generations),
-        about: "remove and create, old identifiers",
-    },
-    Kind { name: "exits", make: Script(script::exits), about: "exits that wake in several sets" },
-    Kind { name: "refusals", make: Script(script::refusals), about: "refusals of every code" },
-    Kind {
-        name: "queries",
-        make: Script(script::queries),
-        about: "queries with sleepers at every semaphore",
-    },
-    Kind {
-        name: "seven",
-        make: Script(script::seven_asleep),
-        about: "seven processes asleep all along",
-    },
-    Kind { name: "random", make: Script(script::random), about: "good bodies, not steered" },
+    Kind::new("mixed", Script(script::mixed), "everyday traffic"),
+    Kind::new("dense", Script(script::dense), "seven and eight asleep, and what wakes them"),
+    Kind::new("chains", Script(script::chain), "wake chains as in situation 11"),
+    Kind::new("undo", Script(script::undo), "undo to both limits of value and adjustment"),
+    Kind::new("same", Script(script::same_value), "set value to the number that is there"),
+    Kind::new("extremes", Script(script::extremes), "32,767 and -32,768"),
+    Kind::new("nowait", Script(script::nowait), "IPC_NOWAIT in sleeping arrays, wakings with 11"),
+    Kind::new("range", Script(script::range), "wakings with 34"),
+    Kind::new("generations", Script(script::generations), "remove and create, old identifiers"),
+    Kind::new("exits", Script(script::exits), "exits that wake in several sets"),
+    Kind::new("refusals", Script(script::refusals), "refusals of every code"),
+    Kind::new("queries", Script(script::queries), "queries with sleepers at every semaphore"),
+    Kind::new("seven", Script(script::seven_asleep), "seven processes asleep all along"),
+    Kind::new("random", Script(script::random), "good bodies, not steered"),
 ];
 
 /// Draws of a script; those beyond the last play nothing. With another number of them a seed would

@@ -1,8 +1,8 @@
 //! A run file in the making: each event pushed runs on a host, so that the next can be chosen by
 //! what is there.
 
-use second::write::{self, Body};
-use second::{Answer, Event, Host, Report, Rule, Waking};
+use second::event::{self, Body};
+use second::{Answer, Event, Host, Report, Rule, Waking, ENTRY, HEAD};
 
 use crate::random::Rng;
 
@@ -29,7 +29,7 @@ impl Scene {
     /// The bodies of a file, after the script was played until no more fitted into `limit` bytes.
     pub fn played(play: fn(&mut Scene), rng: Rng, limit: usize) -> Vec<Body> {
         let host = Host::new(Rule::Quick);
-        let mut scene = Scene { rng, host, bodies: Vec::new(), size: 2, limit, full: false };
+        let mut scene = Scene { rng, host, bodies: Vec::new(), size: HEAD, limit, full: false };
         while !scene.is_full() {
             play(&mut scene);
         }
@@ -43,7 +43,7 @@ impl Scene {
 
     /// Adds an event and gives its answer.
     pub fn push(&mut self, body: Body) -> Answer {
-        let grown = self.size + 4 + body.len();
+        let grown = self.size + ENTRY + body.len();
         self.full |= grown > self.limit;
         if self.full {
             return Answer::Event(Report::default());
@@ -101,10 +101,10 @@ impl Scene {
             return target;
         }
         if let [_, _, _, last] = &self.targets()[..] {
-            self.push(write::remove(last.identifier));
+            self.push(event::remove(last.identifier));
         }
         let size = self.rng.between(count as i32, 8) as u8;
-        let identifier = match self.push(write::create(size, 0xFF, 0xFF)) {
+        let identifier = match self.push(event::create(size, 0xFF, 0xFF)) {
             Answer::Event(report) => report.value,
             Answer::Query(_) => 0,
         };
@@ -138,7 +138,7 @@ impl Scene {
     /// Two different processes, awake; where there are no such, some are woken.
     pub fn two_callers(&mut self) -> (u8, u8) {
         for process in self.asleep().into_iter().skip(6) {
-            self.push(write::signal(process));
+            self.push(event::signal(process));
         }
         let mut awake = self.awake();
         self.rng.shuffle(&mut awake);
@@ -152,11 +152,11 @@ impl Scene {
     pub fn calm(&mut self, identifier: i32) {
         for process in self.asleep() {
             let signal = self.rng.once_in(2);
-            self.push(if signal { write::signal(process) } else { write::exit(process) });
+            self.push(if signal { event::signal(process) } else { event::exit(process) });
         }
         for target in self.targets().iter().filter(|target| target.identifier == identifier) {
             for (number, _) in target.values.iter().enumerate().filter(|(_, &value)| value != 0) {
-                self.push(write::set_value(identifier, number as u16, 0));
+                self.push(event::set_value(identifier, number as u16, 0));
             }
         }
     }

@@ -1,7 +1,7 @@
 //! Traffic in episodes: each script plays one, a few events to a few dozen, on whatever the scene
 //! holds. A file repeats one script, or mixes them.
 
-use second::write::{self, NOWAIT, UNDO};
+use second::{event, NOWAIT, UNDO};
 
 use crate::choice::{self, narrow, two_numbers, MAX};
 use crate::scene::{wakes_with, wakings, Scene};
@@ -52,12 +52,12 @@ pub fn chain(scene: &mut Scene) {
         if link > 0 {
             array.push((link - 1, 1, 0));
         }
-        scene.push(write::operate(link as u8 + 1, target.identifier, &array));
+        scene.push(event::operate(link as u8 + 1, target.identifier, &array));
     }
     let first = if links < 8 && scene.rng.once_in(2) {
-        write::operate(8, target.identifier, &[(links - 1, 1, 0)])
+        event::operate(8, target.identifier, &[(links - 1, 1, 0)])
     } else {
-        write::set_value(target.identifier, links - 1, 1)
+        event::set_value(target.identifier, links - 1, 1)
     };
     scene.push(first);
 }
@@ -68,7 +68,7 @@ pub fn undo(scene: &mut Scene) {
     let number = choice::number(&mut scene.rng, &target);
     let (holder, other) = scene.two_callers();
     let start = scene.rng.pick(&[0, 0, MAX, MAX, 5, 16_000]);
-    scene.push(write::set_value(target.identifier, number, start));
+    scene.push(event::set_value(target.identifier, number, start));
     let step = scene.rng.pick(&[1, 2, 3, 10, 16_384]);
     let take = scene.rng.pick(&[MAX, MAX - 1, step, 16_384]).min(MAX - start + step);
     // Upwards from low values, else downwards, so that the adjustment goes the other way.
@@ -83,14 +83,14 @@ pub fn undo(scene: &mut Scene) {
     let events = scene.rng.between(1, amounts.len() as i32) as usize;
     for &(process, amount, flags) in &amounts[..events] {
         let array = [(number, narrow(amount), flags)];
-        scene.push(write::operate(process, target.identifier, &array));
+        scene.push(event::operate(process, target.identifier, &array));
     }
     if scene.rng.once_in(4) {
         let value = scene.rng.pick(&[0, 1, MAX]);
-        scene.push(write::set_value(target.identifier, number, value));
+        scene.push(event::set_value(target.identifier, number, value));
     }
-    scene.push(write::exit(holder));
-    scene.push(write::query(target.identifier, number));
+    scene.push(event::exit(holder));
+    scene.push(event::query(target.identifier, number));
 }
 
 /// Set value to the number that is there: it touches all the same, and the adjustments it clears
@@ -101,23 +101,23 @@ pub fn same_value(scene: &mut Scene) {
     let (holder, other) = scene.two_callers();
     let id = target.identifier;
     if scene.rng.once_in(2) {
-        scene.push(write::set_value(id, a, MAX));
-        scene.push(write::set_value(id, b, 0));
-        scene.push(write::operate(holder, id, &[(a, -32_767, UNDO)]));
+        scene.push(event::set_value(id, a, MAX));
+        scene.push(event::set_value(id, b, 0));
+        scene.push(event::operate(holder, id, &[(a, -32_767, UNDO)]));
         let up = narrow(scene.rng.between(16_384, MAX));
         let array = [(a, up, UNDO), (a, -up, 0), (a, up, UNDO), (b, -1, 0)];
-        scene.push(write::operate(holder, id, &array));
-        scene.push(write::query(id, b));
-        scene.push(write::set_value(id, a, 0));
+        scene.push(event::operate(holder, id, &array));
+        scene.push(event::query(id, b));
+        scene.push(event::set_value(id, a, 0));
     } else {
         fill(scene, 3);
     }
     for target in scene.targets() {
         let number = choice::number(&mut scene.rng, &target);
         let value = target.values[usize::from(number)];
-        scene.push(write::set_value(target.identifier, number, value));
+        scene.push(event::set_value(target.identifier, number, value));
     }
-    scene.push(write::exit(other));
+    scene.push(event::exit(other));
 }
 
 /// Amounts and values at the ends of their ranges.
@@ -125,7 +125,7 @@ pub fn extremes(scene: &mut Scene) {
     let target = scene.open_set(1);
     let number = choice::number(&mut scene.rng, &target);
     let value = scene.rng.pick(&[0, 1, MAX - 1, MAX]);
-    scene.push(write::set_value(target.identifier, number, value));
+    scene.push(event::set_value(target.identifier, number, value));
     for _ in 0..3 {
         let caller = scene.caller();
         let mut array = Vec::new();
@@ -133,11 +133,11 @@ pub fn extremes(scene: &mut Scene) {
             let amount = scene.rng.pick(&[-32_768, -32_768, -32_767, MAX, MAX - 1, 1, -1, 0]);
             array.push((number, narrow(amount), choice::flags(&mut scene.rng)));
         }
-        scene.push(write::operate(caller, target.identifier, &array));
+        scene.push(event::operate(caller, target.identifier, &array));
     }
     let leaver = scene.process();
-    scene.push(write::exit(leaver));
-    scene.push(write::query(target.identifier, number));
+    scene.push(event::exit(leaver));
+    scene.push(event::query(target.identifier, number));
 }
 
 /// A semaphore changes under a sleeper that waits at another: by set value, by operate, or by the
@@ -154,18 +154,18 @@ fn change_under(scene: &mut Scene, code: u8) {
         _ if scene.rng.once_in(2) => (0, step, (a, 0, NOWAIT)),
         _ => (step, 0, (a, narrow(-step), NOWAIT)),
     };
-    scene.push(write::set_value(id, b, 0));
-    scene.push(write::set_value(id, a, to));
-    scene.push(write::operate(holder, id, &[(a, narrow(from - to), UNDO)]));
-    scene.push(write::operate(sleeper, id, &[first, (b, -1, 0)]));
+    scene.push(event::set_value(id, b, 0));
+    scene.push(event::set_value(id, a, to));
+    scene.push(event::operate(holder, id, &[(a, narrow(from - to), UNDO)]));
+    scene.push(event::operate(sleeper, id, &[first, (b, -1, 0)]));
     if scene.rng.once_in(3) {
         let asleep = scene.asleep().len() + 2;
         fill(scene, asleep.min(7));
     }
     let change = match scene.rng.below(3) {
-        0 => write::set_value(id, a, to),
-        1 => write::operate(holder, id, &[(a, narrow(to - from), 0)]),
-        _ => write::exit(holder),
+        0 => event::set_value(id, a, to),
+        1 => event::operate(holder, id, &[(a, narrow(to - from), 0)]),
+        _ => event::exit(holder),
     };
     scene.push(change);
     scene.seek(|answer| wakes_with(answer, code), choice::stir);
@@ -192,17 +192,17 @@ pub fn generations(scene: &mut Scene) {
     let target = scene.target();
     let id = target.identifier;
     let number = choice::number(&mut scene.rng, &target);
-    scene.push(write::operate(caller, id, &[(number, 3, UNDO)]));
-    scene.push(write::remove(id));
+    scene.push(event::operate(caller, id, &[(number, 3, UNDO)]));
+    scene.push(event::remove(id));
     if scene.rng.once_in(3) {
-        scene.push(write::exit(caller));
+        scene.push(event::exit(caller));
     }
     let stale = choice::stale(scene);
-    scene.push(write::create(8, 0xFF, 0xFF));
-    scene.push(write::operate(caller, id, &[(number, 1, 0)]));
-    scene.push(write::query(stale, number));
-    scene.push(write::remove(id));
-    scene.push(write::exit(caller));
+    scene.push(event::create(8, 0xFF, 0xFF));
+    scene.push(event::operate(caller, id, &[(number, 1, 0)]));
+    scene.push(event::query(stale, number));
+    scene.push(event::remove(id));
+    scene.push(event::exit(caller));
     scene.add(choice::query);
 }
 
@@ -210,15 +210,15 @@ pub fn generations(scene: &mut Scene) {
 pub fn exits(scene: &mut Scene) {
     while scene.targets().len() < 3 && !scene.is_full() {
         let count = scene.rng.between(1, 8) as u8;
-        scene.push(write::create(count, 0xFF, 0xFF));
+        scene.push(event::create(count, 0xFF, 0xFF));
     }
     let (holder, _) = scene.two_callers();
     let mut held = Vec::new();
     for target in scene.targets() {
         let number = choice::number(&mut scene.rng, &target);
         let amount = scene.rng.between(1, 3);
-        scene.push(write::set_value(target.identifier, number, amount));
-        scene.push(write::operate(holder, target.identifier, &[(number, narrow(-amount), UNDO)]));
+        scene.push(event::set_value(target.identifier, number, amount));
+        scene.push(event::operate(holder, target.identifier, &[(number, narrow(-amount), UNDO)]));
         held.push((target.identifier, number));
     }
     scene.rng.shuffle(&mut held);
@@ -226,9 +226,9 @@ pub fn exits(scene: &mut Scene) {
         let sleeper = scene.awake().into_iter().find(|&process| process != holder);
         let amount = scene.rng.pick(&[-1, -1, -2, -3]);
         let array = [(number, amount, choice::flags(&mut scene.rng) & !NOWAIT)];
-        scene.push(write::operate(sleeper.unwrap_or(holder), identifier, &array));
+        scene.push(event::operate(sleeper.unwrap_or(holder), identifier, &array));
     }
-    scene.push(write::exit(holder));
+    scene.push(event::exit(holder));
 }
 
 /// Refusals of every code.
@@ -249,7 +249,7 @@ pub fn queries(scene: &mut Scene) {
     fill(scene, asleep);
     for target in scene.targets() {
         for number in 0..=target.values.len() as u16 {
-            scene.push(write::query(target.identifier, number));
+            scene.push(event::query(target.identifier, number));
         }
     }
     scene.add(choice::stir);
@@ -263,16 +263,16 @@ pub fn seven_asleep(scene: &mut Scene) {
     for process in scene.awake().into_iter().filter(|&process| process != 8) {
         let (a, b) = (scene.rng.below(7) as u16, scene.rng.below(7) as u16);
         let array = [(a, -narrow(scene.rng.between(0, 2)), 0), (b, 1, UNDO), (7, -1, 0)];
-        scene.push(write::operate(process, id, &array));
+        scene.push(event::operate(process, id, &array));
     }
     let number = scene.rng.below(7) as u16;
     let value = target.values[usize::from(number)];
     let amount = scene.rng.between(if value > 0 { -1 } else { 0 }, 1);
     let body = match scene.rng.below(8) {
-        0 => write::set_value(id, number, scene.rng.between(0, 3)),
-        1 => write::query(id, scene.rng.below(8) as u16),
-        2 => write::operate(8, id, &[(7, 1, 0), (number, 1, 0), (7, -1, 0)]),
-        _ => write::operate(8, id, &[(number, narrow(amount), NOWAIT)]),
+        0 => event::set_value(id, number, scene.rng.between(0, 3)),
+        1 => event::query(id, scene.rng.below(8) as u16),
+        2 => event::operate(8, id, &[(7, 1, 0), (number, 1, 0), (7, -1, 0)]),
+        _ => event::operate(8, id, &[(number, narrow(amount), NOWAIT)]),
     };
     scene.push(body);
 }

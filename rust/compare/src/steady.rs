@@ -1,23 +1,24 @@
 //! Scenes that stay as they are: processes asleep, and the same event again and again. No seed
 //! draws them; they are for the benchmark.
 
-use second::write::{self, Operation, UNDO};
+use second::event::{self, Operation};
+use second::UNDO;
 
 use crate::kind::Kind;
 use crate::kind::Make::Script;
 use crate::scene::Scene;
 
 pub static STEADY: [Kind; 2] = [
-    Kind {
-        name: "counts",
-        make: Script(counts),
-        about: "queries alone, with eight asleep on eight operations each",
-    },
-    Kind {
-        name: "settings",
-        make: Script(settings),
-        about: "set value alone, looking at seven asleep and waking nobody",
-    },
+    Kind::new(
+        "counts",
+        Script(counts),
+        "queries alone, with eight asleep on eight operations each",
+    ),
+    Kind::new(
+        "settings",
+        Script(settings),
+        "set value alone, looking at seven asleep and waking nobody",
+    ),
 ];
 
 /// The most that `settings` sets.
@@ -33,10 +34,10 @@ fn counts(scene: &mut Scene) {
             array.push(((u16::from(process) + step) % 8, 1, scene.rng.pick(&[0, UNDO])));
         }
         array.push((u16::from(process) % 8, -1, 0));
-        scene.push(write::operate(process, id, &array));
+        scene.push(event::operate(process, id, &array));
     }
     let number = scene.rng.below(8) as u16;
-    scene.push(write::query(id, number));
+    scene.push(event::query(id, number));
 }
 
 /// Every array ends by taking more from semaphore 0 than it is ever set to.
@@ -48,10 +49,10 @@ fn settings(scene: &mut Scene) {
             array.push((scene.rng.between(1, 7) as u16, 1, scene.rng.pick(&[0, UNDO])));
         }
         array.push((0, -1 - MOST as i16, 0));
-        scene.push(write::operate(process, id, &array));
+        scene.push(event::operate(process, id, &array));
     }
     let value = scene.rng.between(0, MOST);
-    scene.push(write::set_value(id, 0, value));
+    scene.push(event::set_value(id, 0, value));
 }
 
 #[cfg(test)]

@@ -1,7 +1,10 @@
 //! Small files in full: every cut of the whole example, every changed bit of its table, every
 //! unknown kind, and every length of each kind.
 
-use second::write::{operate, run_file, Body};
+use second::event::{operate, Body};
+use second::run_file;
+
+use crate::events::UNKNOWN;
 
 /// The whole example of 44 bytes: create, an operate that sleeps, one that wakes it.
 const EXAMPLE: [u8; 44] = [
@@ -52,7 +55,7 @@ fn sums_that_go_round() -> Vec<Vec<u8>> {
 fn kinds_and_lengths() -> Vec<Body> {
     let mut bodies = vec![Body::new()];
     for length in 1..20 {
-        for kind in 1..8 {
+        for kind in 1..UNKNOWN {
             let mut body = vec![0; length];
             body[0] = kind;
             bodies.push(body);
@@ -65,6 +68,6 @@ fn kinds_and_lengths() -> Vec<Body> {
             bodies.push(body);
         }
     }
-    bodies.extend([0].into_iter().chain(8..=255).map(|kind| vec![kind, 1]));
+    bodies.extend([0].into_iter().chain(UNKNOWN..=255).map(|kind| vec![kind, 1]));
     bodies
 }

@@ -2,20 +2,11 @@
 
 use std::collections::BTreeMap;
 
-use second::{Event, RunFile};
+use second::RunFile;
 
 use crate::check::Texts;
+use crate::events::{self, EventKind, EVENTS};
 
-/// Each event with the codes it can answer and the codes it can wake with.
-const EVENTS: [(&str, &[i32], &[i32]); 7] = [
-    ("create", &[0, 22, 28], &[]),
-    ("operate", &[0, -1, 3, 7, 11, 13, 16, 22, 27, 34], &[0, 11, 34]),
-    ("set value", &[0, 22, 34], &[0, 11, 34]),
-    ("remove", &[0, 22], &[43]),
-    ("signal", &[0, 3], &[4]),
-    ("exit", &[0, 3], &[0, 11, 34]),
-    ("query", &[0, 22], &[]),
-];
 const BAD: [i32; 4] = [201, 202, 203, 204];
 /// Files of more bytes than this count as long.
 const LONG: usize = 60_000;
@@ -37,18 +28,6 @@ pub struct Tally {
     plain_looks: Counts<i32>,
 }
 
-fn index_of(event: &Event) -> usize {
-    match event {
-        Event::Create { .. } => 0,
-        Event::Operate { .. } => 1,
-        Event::SetValue { .. } => 2,
-        Event::Remove { .. } => 3,
-        Event::Signal { .. } => 4,
-        Event::Exit { .. } => 5,
-        Event::Query { .. } => 6,
-    }
-}
-
 fn number(field: Option<&str>) -> i32 {
     field.and_then(|field| field.parse().ok()).unwrap_or(i32::MIN)
 }
@@ -66,8 +45,8 @@ impl Tally {
         if let Some(code) = first.strip_prefix("bad ") {
             *self.bad.entry(number(Some(code))).or_default() += 1;
         } else if let Ok(run) = RunFile::read(file) {
-            for (event, (quick, plain)) in run.events().zip(lines) {
-                self.add_line(index_of(&event), quick, plain);
+            for (body, (quick, plain)) in run.bodies().zip(lines) {
+                self.add_line(events::place(body), quick, plain);
             }
         }
     }
@@ -76,7 +55,7 @@ impl Tally {
         self.events += 1;
         let mut fields = quick.split(' ').skip(1);
         *self.codes.entry((event, number(fields.next()))).or_default() += 1;
-        if EVENTS[event].0 == "query" {
+        if EVENTS[event].asks {
             return;
         }
         *self.quick_looks.entry(number(fields.nth(1))).or_default() += 1;
@@ -111,13 +90,13 @@ impl Tally {
                 table += "\n";
             }
         };
-        for (index, (name, ..)) in EVENTS.iter().enumerate() {
-            row(&format!("{name}: codes"), entries(of_event(&self.codes, index)));
+        for (index, event) in EVENTS.iter().enumerate() {
+            row(&format!("{}: codes", event.name), entries(of_event(&self.codes, index)));
         }
-        for (index, (name, ..)) in EVENTS.iter().enumerate() {
+        for (index, event) in EVENTS.iter().enumerate() {
             let wakings = entries(of_event(&self.wakings, index));
             if !wakings.is_empty() {
-                row(&format!("{name}: wakings"), wakings);
+                row(&format!("{}: wakings", event.name), wakings);
             }
         }
         row("looks, quick rule", entries(self.quick_looks.iter()));
@@ -129,7 +108,7 @@ impl Tally {
     /// What the rules know and no file showed.
     pub fn missing(&self) -> Vec<String> {
         let mut missing = Vec::new();
-        for (index, (name, codes, wakings)) in EVENTS.iter().enumerate() {
+        for (index, EventKind { name, codes, wakings, .. }) in EVENTS.iter().enumerate() {
             let lacking =
                 |counts: &Counts<(usize, i32)>, code: &i32| !counts.contains_key(&(index, *code));
             let codes = codes.iter().filter(|code| lacking(&self.codes, code));

@@ -1,126 +1,94 @@
 //! The body of an event, to and from its bytes.
 
-use crate::event::{Event, Operation};
+use crate::event::{Event, KINDS};
+use crate::field::Field;
+use crate::operation::Operation;
 use crate::refusal::Refusal;
 
-const CREATE: u8 = 1;
-const OPERATE: u8 = 2;
-const SET_VALUE: u8 = 3;
-const REMOVE: u8 = 4;
-const SIGNAL: u8 = 5;
-const EXIT: u8 = 6;
-const QUERY: u8 = 7;
-
-/// Bytes of an operate's body in front of its operations, and of one operation.
-const OPERATE_HEAD: usize = 7;
-const OPERATION: usize = 6;
-
 pub fn encode(event: &Event) -> Vec<u8> {
-    match event {
-        Event::Create { count, read, alter } => vec![CREATE, *count, *read, *alter],
-        Event::Operate { process, identifier, operations } => {
-            let mut body = vec![OPERATE, *process];
-            body.extend_from_slice(&identifier.to_le_bytes());
-            body.push(operations.len() as u8);
-            for operation in operations {
-                body.extend_from_slice(&operation.number.to_le_bytes());
-                body.extend_from_slice(&operation.amount.to_le_bytes());
-                body.extend_from_slice(&operation.flags.to_le_bytes());
+    let mut body = vec![event.kind().number];
+    for (_, field) in event.clone().fields() {
+        match field {
+            Field::Count(value) | Field::Process(value) | Field::Mask(value) => body.push(*value),
+            Field::Number(value) => body.extend_from_slice(&value.to_le_bytes()),
+            Field::Identifier(value) | Field::Value(value) => {
+                body.extend_from_slice(&value.to_le_bytes());
             }
-            body
+            Field::Operations(operations) => {
+                body.push(operations.len() as u8);
+                for operation in operations {
+                    body.extend_from_slice(&operation.number.to_le_bytes());
+                    body.extend_from_slice(&operation.amount.to_le_bytes());
+                    body.extend_from_slice(&operation.flags.to_le_bytes());
+                }
+            }
         }
-        Event::SetValue { identifier, number, value } => {
-            let mut body = numbered(SET_VALUE, *identifier, *number);
-            body.extend_from_slice(&value.to_le_bytes());
-            body
-        }
-        Event::Remove { identifier } => {
-            let mut body = vec![REMOVE];
-            body.extend_from_slice(&identifier.to_le_bytes());
-            body
-        }
-        Event::Signal { process } => vec![SIGNAL, *process],
-        Event::Exit { process } => vec![EXIT, *process],
-        Event::Query { identifier, number } => numbered(QUERY, *identifier, *number),
     }
-}
-
-fn numbered(kind: u8, identifier: i32, number: u16) -> Vec<u8> {
-    let mut body = vec![kind];
-    body.extend_from_slice(&identifier.to_le_bytes());
-    body.extend_from_slice(&number.to_le_bytes());
     body
 }
 
 /// The event, or what is wrong with its body.
 pub fn decode(body: &[u8]) -> Result<Event, Refusal> {
-    let length = length_wanted(body)?;
-    if body.len() != length {
-        let words =
-            format!("a body of kind {} has {length} bytes here, not {}", body[0], body.len());
+    if body.is_empty() {
+        return Err(Refusal { code: 204, words: "the body is empty".into() });
+    }
+    let mut bytes = Bytes { body, read: 0 };
+    let number = bytes.u8();
+    let kind = KINDS.iter().find(|kind| kind.number == number);
+    let unknown = || Refusal { code: 203, words: format!("there is no kind {number}") };
+    let mut event = kind.ok_or_else(unknown)?.blank.clone();
+    for (_, field) in event.fields() {
+        match field {
+            Field::Count(value) | Field::Process(value) | Field::Mask(value) => *value = bytes.u8(),
+            Field::Number(value) => *value = bytes.u16(),
+            Field::Identifier(value) | Field::Value(value) => *value = bytes.i32(),
+            Field::Operations(operations) => *operations = bytes.operations(),
+        }
+    }
+    let (wanted, present) = (bytes.read, body.len());
+    if wanted != present {
+        let words = format!("a body of kind {number} has {wanted} bytes here, not {present}");
         return Err(Refusal { code: 204, words });
     }
-    let mut fields = Fields(&body[1..]);
-    Ok(match body[0] {
-        CREATE => Event::Create { count: fields.u8(), read: fields.u8(), alter: fields.u8() },
-        OPERATE => operate(&mut fields),
-        SET_VALUE => {
-            Event::SetValue { identifier: fields.i32(), number: fields.u16(), value: fields.i32() }
+    Ok(event)
+}
+
+/// A body from which fields are read. Beyond its end there are zeros, so that what was read tells
+/// how long it has to be.
+struct Bytes<'a> {
+    body: &'a [u8],
+    read: usize,
+}
+
+impl Bytes<'_> {
+    fn take<const N: usize>(&mut self) -> [u8; N] {
+        let mut bytes = [0; N];
+        for byte in &mut bytes {
+            *byte = self.body.get(self.read).copied().unwrap_or(0);
+            self.read += 1;
         }
-        REMOVE => Event::Remove { identifier: fields.i32() },
-        SIGNAL => Event::Signal { process: fields.u8() },
-        EXIT => Event::Exit { process: fields.u8() },
-        _ => Event::Query { identifier: fields.i32(), number: fields.u16() },
-    })
-}
-
-/// How long the body has to be, by its kind and an operate's number of operations.
-fn length_wanted(body: &[u8]) -> Result<usize, Refusal> {
-    let kind = *body.first().ok_or(Refusal { code: 204, words: "the body is empty".into() })?;
-    match kind {
-        CREATE => Ok(4),
-        OPERATE => {
-            let operations = body.get(OPERATE_HEAD - 1).copied().unwrap_or(0);
-            Ok(OPERATE_HEAD + OPERATION * usize::from(operations))
-        }
-        SET_VALUE => Ok(11),
-        REMOVE => Ok(5),
-        SIGNAL | EXIT => Ok(2),
-        QUERY => Ok(7),
-        _ => Err(Refusal { code: 203, words: format!("there is no kind {kind}") }),
-    }
-}
-
-fn operate(fields: &mut Fields) -> Event {
-    let (process, identifier, count) = (fields.u8(), fields.i32(), fields.u8());
-    let operation =
-        |_| Operation { number: fields.u16(), amount: fields.i16(), flags: fields.u16() };
-    Event::Operate { process, identifier, operations: (0..count).map(operation).collect() }
-}
-
-/// The fields still to be read of a body whose length is right.
-struct Fields<'a>(&'a [u8]);
-
-impl Fields<'_> {
-    fn bytes<const N: usize>(&mut self) -> [u8; N] {
-        let (field, rest) = self.0.split_at(N);
-        self.0 = rest;
-        field.try_into().expect("the field was split off with this length")
+        bytes
     }
 
     fn u8(&mut self) -> u8 {
-        u8::from_le_bytes(self.bytes())
+        u8::from_le_bytes(self.take())
     }
 
     fn u16(&mut self) -> u16 {
-        u16::from_le_bytes(self.bytes())
+        u16::from_le_bytes(self.take())
     }
 
     fn i16(&mut self) -> i16 {
-        i16::from_le_bytes(self.bytes())
+        i16::from_le_bytes(self.take())
     }
 
     fn i32(&mut self) -> i32 {
-        i32::from_le_bytes(self.bytes())
+        i32::from_le_bytes(self.take())
+    }
+
+    fn operations(&mut self) -> Vec<Operation> {
+        let count = self.u8();
+        let operation = |_| Operation { number: self.u16(), amount: self.i16(), flags: self.u16() };
+        (0..count).map(operation).collect()
     }
 }

@@ -1,7 +1,12 @@
-//! The seven events, with the fields that their bodies hold.
+//! The seven events. All that a kind has of its own is said here.
 
-pub const NOWAIT: u16 = 2_048;
-pub const UNDO: u16 = 4_096;
+use std::mem::discriminant;
+
+use crate::codes::OUT_OF_RANGE;
+use crate::count::counted;
+use crate::field::Field;
+use crate::mask;
+use crate::operation::Operation;
 
 /// Any value that fits the body is kept, also one that every host refuses.
 #[derive(Clone, Debug, PartialEq, Eq)]
@@ -37,10 +42,134 @@ pub enum Event {
     },
 }
 
-#[derive(Clone, Copy, Debug, PartialEq, Eq)]
-pub struct Operation {
-    pub number: u16,
-    pub amount: i16,
-    /// All sixteen bits, the ignored ones too.
-    pub flags: u16,
+pub struct Kind {
+    /// The first byte of a body.
+    pub number: u8,
+    /// The first word of a line, and what the help has to add.
+    pub word: &'static str,
+    pub about: &'static str,
+    /// An event of the kind, its fields not yet filled in.
+    pub blank: Event,
+}
+
+pub static KINDS: [Kind; 7] = [
+    Kind {
+        number: 1,
+        word: "create",
+        about: "a set of COUNT semaphores",
+        blank: Event::Create { count: 0, read: mask::ALL, alter: mask::ALL },
+    },
+    Kind {
+        number: 2,
+        word: "operate",
+        about: "all the operations, or sleep",
+        blank: Event::Operate { process: 0, identifier: 0, operations: Vec::new() },
+    },
+    Kind {
+        number: 3,
+        word: "set",
+        about: "set one semaphore's value",
+        blank: Event::SetValue { identifier: 0, number: 0, value: 0 },
+    },
+    Kind { number: 4, word: "remove", about: "", blank: Event::Remove { identifier: 0 } },
+    Kind { number: 5, word: "signal", about: "", blank: Event::Signal { process: 0 } },
+    Kind { number: 6, word: "exit", about: "", blank: Event::Exit { process: 0 } },
+    Kind { number: 7, word: "query", about: "", blank: Event::Query { identifier: 0, number: 0 } },
+];
+
+const NO_SET: &str = "no live set has this identifier";
+const NO_SEMAPHORE: &str = "no live set has this identifier, or it has no such semaphore";
+
+impl Event {
+    pub fn kind(&self) -> &'static Kind {
+        let same = |kind: &&Kind| discriminant(&kind.blank) == discriminant(self);
+        KINDS.iter().find(same).expect("every kind stands in the table")
+    }
+
+    /// The fields in the order of body and text, each with what stands in front of it in a text.
+    pub fn fields(&mut self) -> Vec<(&'static str, Field<'_>)> {
+        match self {
+            Event::Create { count, read, alter } => vec![
+                ("", Field::Count(count)),
+                ("read=", Field::Mask(read)),
+                ("alter=", Field::Mask(alter)),
+            ],
+            Event::Operate { process, identifier, operations } => vec![
+                ("", Field::Process(process)),
+                ("set=", Field::Identifier(identifier)),
+                ("", Field::Operations(operations)),
+            ],
+            Event::SetValue { identifier, number, value } => vec![
+                ("", Field::Identifier(identifier)),
+                ("number=", Field::Number(number)),
+                ("value=", Field::Value(value)),
+            ],
+            Event::Remove { identifier } => vec![("", Field::Identifier(identifier))],
+            Event::Signal { process } => vec![("", Field::Process(process))],
+            Event::Exit { process } => vec![("", Field::Process(process))],
+            Event::Query { identifier, number } => {
+                vec![("", Field::Identifier(identifier)), ("number=", Field::Number(number))]
+            }
+        }
+    }
+
+    pub fn in_words(&self) -> String {
+        match self {
+            Event::Create { count, read, alter } => {
+                let semaphores = counted(u32::from(*count), "semaphore");
+                format!("create a set of {semaphores}, {}", permissions(*read, *alter))
+            }
+            Event::Operate { process, identifier, operations } => {
+                let operations: Vec<String> = operations.iter().map(Operation::in_words).collect();
+                let operations = match operations[..] {
+                    [] => "no operations".to_string(),
+                    _ => operations.join("; "),
+                };
+                format!("process {process} on set {identifier}: {operations}")
+            }
+            Event::SetValue { identifier, number, value } => {
+                format!("set semaphore {number} of set {identifier} to {value}")
+            }
+            Event::Remove { identifier } => format!("remove set {identifier}"),
+            Event::Signal { process } => format!("signal process {process}"),
+            Event::Exit { process } => format!("process {process} exits"),
+            Event::Query { identifier, number } => {
+                format!("query semaphore {number} of set {identifier}")
+            }
+        }
+    }
+
+    /// Are sleepers looked at once it is done?
+    pub fn looks(&self) -> bool {
+        matches!(self, Event::Operate { .. } | Event::SetValue { .. } | Event::Exit { .. })
+    }
+
+    /// Why the event is refused with this code.
+    pub fn why_refused(&self, code: i32) -> Option<&'static str> {
+        Some(match (self, code) {
+            (Event::Create { .. }, 22) => "the count isn't 1 to 8",
+            (Event::Create { .. }, 28) => "no slot is free",
+            (Event::Operate { .. }, 16) => "the process is asleep",
+            (Event::Operate { operations, .. }, 22) if operations.is_empty() => "no operations",
+            (Event::Operate { .. } | Event::Remove { .. }, 22) => NO_SET,
+            (Event::Operate { .. }, 7) => "too many operations",
+            (Event::Operate { .. }, 27) => "the set has no such semaphore",
+            (Event::Operate { .. }, 13) => "the set's masks don't permit it",
+            (Event::Operate { .. }, 11) => "it would have to sleep, but nowait is given",
+            (Event::Operate { .. }, 34) => OUT_OF_RANGE,
+            (Event::SetValue { .. } | Event::Query { .. }, 22) => NO_SEMAPHORE,
+            (Event::SetValue { .. }, 34) => "the value isn't 0 to 32767",
+            (Event::Operate { .. } | Event::Signal { .. } | Event::Exit { .. }, 3) => {
+                "no such process"
+            }
+            _ => return None,
+        })
+    }
+}
+
+fn permissions(read: u8, alter: u8) -> String {
+    if read == alter {
+        return format!("for {} to read and alter", mask::name(read));
+    }
+    format!("for {} to read, for {} to alter", mask::name(read), mask::name(alter))
 }

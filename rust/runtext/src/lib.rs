@@ -6,15 +6,19 @@
 //!
 //! Data goes one way: text or bytes to events (`parse`, `runfile`), events to bytes or text
 //! (`runfile`, `print`). A story hands bytes to the program, reads its lines (`answer`), and puts
-//! queries behind the events (`questions`) to learn the values. No rule of the service is in here:
-//! what a story shows is what the program wrote.
+//! queries behind the events (`questions`) to learn the values. What the kinds of events are stands
+//! in `event`; texts, bodies and the help go by that. No rule of the service is in here: what a
+//! story shows is what the program wrote.
 
 #![forbid(unsafe_code)]
 
 mod answer;
 mod body;
 mod codes;
+mod count;
 pub mod event;
+mod field;
+pub mod help;
 mod mask;
 mod mistake;
 mod operation;
@@ -28,5 +32,7 @@ mod scan;
 pub mod story;
 mod words;
 
+pub use field::Field;
 pub use mistake::Mistake;
+pub use operation::Operation;
 pub use refusal::Refusal;

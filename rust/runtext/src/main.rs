@@ -6,9 +6,7 @@ use std::io::{self, Read, Write};
 use std::process::ExitCode;
 
 use runtext::program::Program;
-use runtext::{parse, print, runfile, story};
-
-const HELP: &str = include_str!("help.txt");
+use runtext::{help, parse, print, runfile, story};
 
 /// Why a command fails, in words.
 enum Failure {
@@ -41,10 +39,10 @@ fn main() -> ExitCode {
 fn command(arguments: &[String]) -> Result<Vec<u8>, Failure> {
     let (command, rest) = match arguments.split_first() {
         Some((command, rest)) => (command.as_str(), Arguments::read(command, rest)?),
-        None => return Err(Failure::Mistake(HELP.trim_end().to_string())),
+        None => return Err(Failure::Mistake(help::text().trim_end().to_string())),
     };
     match command {
-        "--help" | "-h" => Ok(HELP.into()),
+        "--help" | "-h" => Ok(help::text().into()),
         "assemble" => rest.assembled(),
         "disassemble" => {
             let events = runfile::read(&rest.input()?);

@@ -3,12 +3,15 @@
 use crate::mistake::Mistake;
 use crate::scan::Word;
 
+/// Every process.
+pub const ALL: u8 = 0xFF;
+
 const EXPECTED: &str = "all, none, processes 1 to 8 as in 1,2,5, or a mask as in 0x13";
 
 /// The mask that a word names. Process p has bit p-1.
 pub fn parse(word: Word) -> Result<u8, Mistake> {
     match word.text {
-        "all" => return Ok(0xFF),
+        "all" => return Ok(ALL),
         "none" => return Ok(0),
         _ => {}
     }
@@ -28,7 +31,7 @@ pub fn parse(word: Word) -> Result<u8, Mistake> {
 /// The name of a mask that `parse` reads back.
 pub fn name(mask: u8) -> String {
     match mask {
-        0xFF => "all".to_string(),
+        ALL => "all".to_string(),
         0 => "none".to_string(),
         _ => {
             let processes = (1..=8).filter(|process| mask >> (process - 1) & 1 == 1);

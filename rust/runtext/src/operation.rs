@@ -1,10 +1,21 @@
-//! One operation as text: number, amount and flags as in `0:-1`, `1:+3/undo` or `2:0/nowait,0x7`.
+//! One operation, and its text: number, amount and flags as in `0:-1`, `1:+3/undo` or
+//! `2:0/nowait,0x7`.
 
 use std::fmt;
 
-use crate::event::{Operation, NOWAIT, UNDO};
 use crate::mistake::Mistake;
 use crate::scan::Word;
+
+pub const NOWAIT: u16 = 2_048;
+pub const UNDO: u16 = 4_096;
+
+#[derive(Clone, Copy, Debug, PartialEq, Eq)]
+pub struct Operation {
+    pub number: u16,
+    pub amount: i16,
+    /// All sixteen bits, the ignored ones too.
+    pub flags: u16,
+}
 
 const OPERATION: &str = "an operation as in 0:-1 or 1:+3/undo";
 pub const NUMBER: &str = "the number of a semaphore, 0 to 65535";
@@ -35,7 +46,7 @@ fn parse_flags(word: Word) -> Result<u16, Mistake> {
 }
 
 /// The names of the flags, then the ignored bits if there are any.
-pub fn flag_names(flags: u16) -> Vec<String> {
+fn flag_names(flags: u16) -> Vec<String> {
     let mut names = Vec::new();
     if flags & UNDO != 0 {
         names.push("undo".to_string());
@@ -48,6 +59,22 @@ pub fn flag_names(flags: u16) -> Vec<String> {
         names.push(format!("{ignored:#06x}"));
     }
     names
+}
+
+impl Operation {
+    pub fn in_words(&self) -> String {
+        let number = self.number;
+        let magnitude = self.amount.unsigned_abs();
+        let words = match self.amount {
+            0 => format!("wait for zero at semaphore {number}"),
+            1.. => format!("add {magnitude} to semaphore {number}"),
+            _ => format!("take {magnitude} from semaphore {number}"),
+        };
+        match &flag_names(self.flags)[..] {
+            [] => words,
+            names => format!("{words} ({})", names.join(", ")),
+        }
+    }
 }
 
 impl fmt::Display for Operation {

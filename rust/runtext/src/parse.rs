@@ -1,16 +1,10 @@
 //! From a text to the events of a run.
 //!
 //! One event a line; blank lines are skipped, and a comment goes from `#` to the end of its line.
-//! Words are parted by blanks:
+//! Words are parted by blanks: the first is that of the event's kind, then come its fields in their
+//! order, some behind a name as in `set=`. A field is a number, but for operations and masks:
 //!
 //! ```text
-//! event     = "create" count ["read=" mask] ["alter=" mask]
-//!           | "operate" process "set=" identifier {operation}
-//!           | "set" identifier "number=" number "value=" value
-//!           | "remove" identifier
-//!           | "signal" process
-//!           | "exit" process
-//!           | "query" identifier "number=" number
 //! operation = number ":" amount ["/" flag {"," flag}]
 //! flag      = "undo" | "nowait" | "0x" hexadecimal digits
 //! mask      = "all" | "none" | process {"," process} | "0x" hexadecimal digits
@@ -19,14 +13,14 @@
 //! A mask left out is `all`. Numbers are decimal and go as far as their fields in the body; an
 //! amount may have a plus.
 
-use crate::event::Event;
+use crate::event::{Event, KINDS};
+use crate::field::Field;
 use crate::mask;
 use crate::mistake::Mistake;
-use crate::operation::{self, NUMBER};
+use crate::operation::{self, Operation, NUMBER};
 use crate::runfile::{self, FILE_MAX, HEAD};
 use crate::scan::Words;
 
-const EVENT: &str = "create, operate, set, remove, signal, exit or query";
 const COUNT: &str = "a count of semaphores, 0 to 255";
 const PROCESS: &str = "a process, 0 to 255";
 const IDENTIFIER: &str = "an identifier, -2147483648 to 2147483647";
@@ -74,48 +68,42 @@ fn characters(text: &[u8]) -> Result<&str, Mistake> {
 /// The event of a line, if there is one.
 fn event(line: &str) -> Result<Option<Event>, Mistake> {
     let mut words = Words::of(line);
-    if words.is_empty() {
-        return Ok(None);
-    }
-    let words = &mut words;
-    let kind = words.word(EVENT)?;
-    let event = match kind.text {
-        "create" => create(words)?,
-        "operate" => operate(words)?,
-        "set" => Event::SetValue {
-            identifier: words.number(IDENTIFIER)?,
-            number: words.named("number", NUMBER)?,
-            value: words.named("value", VALUE)?,
-        },
-        "remove" => Event::Remove { identifier: words.number(IDENTIFIER)? },
-        "signal" => Event::Signal { process: words.number(PROCESS)? },
-        "exit" => Event::Exit { process: words.number(PROCESS)? },
-        "query" => Event::Query {
-            identifier: words.number(IDENTIFIER)?,
-            number: words.named("number", NUMBER)?,
-        },
-        _ => return Err(kind.mistake(EVENT)),
+    let word = match words.next() {
+        None => return Ok(None),
+        Some(word) => word,
     };
-    words.end(END)?;
+    let kind = KINDS.iter().find(|kind| kind.word == word.text);
+    let mut event = kind.ok_or_else(|| word.mistake(&kinds()))?.blank.clone();
+    fill_in(&mut event, &mut words)?;
     Ok(Some(event))
 }
 
-fn create(words: &mut Words) -> Result<Event, Mistake> {
-    let count = words.number(COUNT)?;
-    let mut mask = |name| words.option(name).map(mask::parse).transpose();
-    let (read, alter) = (mask("read")?, mask("alter")?);
-    let expected = match (read, alter) {
-        (None, None) => "read=, alter= or the end of the line",
-        (Some(_), None) => "alter= or the end of the line",
-        _ => END,
-    };
-    words.end(expected)?;
-    Ok(Event::Create { count, read: read.unwrap_or(0xFF), alter: alter.unwrap_or(0xFF) })
+/// Reads the fields of an event, and the end of its line.
+fn fill_in(event: &mut Event, words: &mut Words) -> Result<(), Mistake> {
+    // The masks that might still come where the line ends.
+    let mut left_out = Vec::new();
+    for (name, field) in event.fields() {
+        match field {
+            Field::Count(count) => *count = words.number(name, COUNT)?,
+            Field::Process(process) => *process = words.number(name, PROCESS)?,
+            Field::Identifier(identifier) => *identifier = words.number(name, IDENTIFIER)?,
+            Field::Number(number) => *number = words.number(name, NUMBER)?,
+            Field::Value(value) => *value = words.number(name, VALUE)?,
+            Field::Operations(operations) => *operations = all_operations(words)?,
+            Field::Mask(mask) => match words.option(name) {
+                None => left_out.push(name),
+                Some(word) => {
+                    *mask = mask::parse(word)?;
+                    left_out.clear();
+                }
+            },
+        }
+    }
+    left_out.push(END);
+    words.end(&one_of(&left_out))
 }
 
-fn operate(words: &mut Words) -> Result<Event, Mistake> {
-    let process = words.number(PROCESS)?;
-    let identifier = words.named("set", IDENTIFIER)?;
+fn all_operations(words: &mut Words) -> Result<Vec<Operation>, Mistake> {
     let mut operations = Vec::new();
     for word in words {
         if operations.len() == usize::from(u8::MAX) {
@@ -123,13 +111,26 @@ fn operate(words: &mut Words) -> Result<Event, Mistake> {
         }
         operations.push(operation::parse(word)?);
     }
-    Ok(Event::Operate { process, identifier, operations })
+    Ok(operations)
+}
+
+fn kinds() -> String {
+    let words: Vec<&str> = KINDS.iter().map(|kind| kind.word).collect();
+    one_of(&words)
+}
+
+/// `a, b or c`.
+fn one_of(choices: &[&str]) -> String {
+    match choices {
+        [first @ .., last] if !first.is_empty() => format!("{} or {last}", first.join(", ")),
+        _ => choices.concat(),
+    }
 }
 
 #[cfg(test)]
 mod tests {
     use super::*;
-    use crate::event::{Operation, NOWAIT, UNDO};
+    use crate::operation::{NOWAIT, UNDO};
 
     fn mistake(text: &str) -> String {
         events(text.as_bytes()).expect_err("a mistake").to_string()
@@ -163,6 +164,7 @@ mod tests {
 
     #[test]
     fn mistakes_have_line_column_and_what_was_expected() {
+        let kinds = "create, operate, set, remove, signal, exit or query";
         let amount = "an amount, -32768 to 32767";
         let masks = "read=, alter= or the end of the line";
         let number = format!("number= with {NUMBER}");
@@ -170,7 +172,7 @@ mod tests {
         let end = "the end of the line";
         let cases = [
             ("\n\noperate 1 set=0 0:40000", "3:19", amount, "'40000'"),
-            ("opreate 1", "1:1", EVENT, "'opreate'"),
+            ("opreate 1", "1:1", kinds, "'opreate'"),
             ("  remove", "1:9", IDENTIFIER, end),
             ("remove # 3", "1:7", IDENTIFIER, end),
             ("remove 2147483648", "1:8", IDENTIFIER, "'2147483648'"),
@@ -182,7 +184,7 @@ mod tests {
             ("create 256", "1:8", COUNT, "'256'"),
             ("create 1 alter=1 read=1", "1:18", END, "'read=1'"),
             ("create 1 all", "1:10", masks, "'all'"),
-            ("exit 1\n\u{1}", "2:1", EVENT, "'\\u{1}'"),
+            ("exit 1\n\u{1}", "2:1", kinds, "'\\u{1}'"),
         ];
         for (text, place, expected, found) in cases {
             assert_eq!(mistake(text), format!("{place}: expected {expected}, found {found}"));

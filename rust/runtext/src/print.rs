@@ -1,6 +1,7 @@
 //! From events to the one text that is theirs.
 
 use crate::event::Event;
+use crate::field::Field;
 use crate::mask;
 
 /// A line for each event; `parse::events` reads the same events from it.
@@ -9,20 +10,22 @@ pub fn text(events: &[Event]) -> String {
 }
 
 fn line(event: &Event) -> String {
-    match event {
-        Event::Create { count, read, alter } => {
-            format!("create {count} read={} alter={}", mask::name(*read), mask::name(*alter))
+    let mut line = event.kind().word.to_string();
+    for (name, field) in event.clone().fields() {
+        for word in words(field) {
+            line += &format!(" {name}{word}");
         }
-        Event::Operate { process, identifier, operations } => {
-            let operations = operations.iter().map(|operation| format!(" {operation}"));
-            format!("operate {process} set={identifier}{}", operations.collect::<String>())
-        }
-        Event::SetValue { identifier, number, value } => {
-            format!("set {identifier} number={number} value={value}")
-        }
-        Event::Remove { identifier } => format!("remove {identifier}"),
-        Event::Signal { process } => format!("signal {process}"),
-        Event::Exit { process } => format!("exit {process}"),
-        Event::Query { identifier, number } => format!("query {identifier} number={number}"),
+    }
+    line
+}
+
+/// One word for each field, but as many as there are operations.
+fn words(field: Field) -> Vec<String> {
+    match field {
+        Field::Count(value) | Field::Process(value) => vec![value.to_string()],
+        Field::Number(value) => vec![value.to_string()],
+        Field::Identifier(value) | Field::Value(value) => vec![value.to_string()],
+        Field::Mask(mask) => vec![mask::name(*mask)],
+        Field::Operations(operations) => operations.iter().map(ToString::to_string).collect(),
     }
 }

@@ -66,10 +66,6 @@ impl<'a> Words<'a> {
         Words { rest: rest.trim_end(), column: 1 }
     }
 
-    pub fn is_empty(&self) -> bool {
-        self.rest.is_empty()
-    }
-
     fn take(&mut self, length: usize) -> Word<'a> {
         let (text, rest) = self.rest.split_at(length);
         let word = Word { text, column: self.column };
@@ -79,31 +75,29 @@ impl<'a> Words<'a> {
     }
 
     /// The next word; there has to be one.
-    pub fn word(&mut self, expected: &str) -> Result<Word<'a>, Mistake> {
+    fn word(&mut self, expected: &str) -> Result<Word<'a>, Mistake> {
         let column = self.column;
         self.next().ok_or_else(|| Mistake::at_end(column, expected))
     }
 
-    /// The next word, a number.
-    pub fn number<T: FromStr>(&mut self, expected: &str) -> Result<T, Mistake> {
-        self.word(expected)?.number(expected)
-    }
-
-    /// What stands behind `name` and `=`, if that comes next.
+    /// What stands behind a name such as `set=` in the next word, if that has it.
     pub fn option(&mut self, name: &str) -> Option<Word<'a>> {
         let mut ahead = self.clone();
-        let (first, value) = ahead.next()?.split('=');
-        let value = value.filter(|_| first.text == name)?;
+        let word = ahead.next()?;
+        let text = word.text.strip_prefix(name)?;
         *self = ahead;
-        Some(value)
+        Some(Word { text, column: word.column + name.chars().count() })
     }
 
-    /// What stands behind `name` and `=`, a number; that has to come next.
-    pub fn named<T: FromStr>(&mut self, name: &str, expected: &str) -> Result<T, Mistake> {
+    /// The next word, a number behind the name, which may be empty.
+    pub fn number<T: FromStr>(&mut self, name: &str, expected: &str) -> Result<T, Mistake> {
+        if name.is_empty() {
+            return self.word(expected)?.number(expected);
+        }
         match self.option(name) {
             Some(value) => value.number(expected),
             None => {
-                let expected = format!("{name}= with {expected}");
+                let expected = format!("{name} with {expected}");
                 let word = self.word(&expected)?;
                 Err(word.mistake(&expected))
             }

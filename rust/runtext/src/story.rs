@@ -2,6 +2,7 @@
 
 use crate::answer::{Answer, State};
 use crate::codes;
+use crate::count::counted;
 use crate::event::Event;
 use crate::program::{Program, Replay};
 use crate::questions::{self, Question};
@@ -40,7 +41,7 @@ pub fn tell(program: &Program, file: &[u8]) -> Result<String, String> {
     })?;
     let mut scenes = scenes(events, lines)?;
     ask(program, &mut scenes)?;
-    let mut story = words::counted(scenes.len() as u32, "event") + "\n";
+    let mut story = counted(scenes.len() as u32, "event") + "\n";
     for (position, scene) in scenes.iter().enumerate() {
         story += "\n";
         story += &scene.tell(position);
@@ -122,7 +123,7 @@ impl Scene {
     }
 
     fn tell(&self, position: usize) -> String {
-        let mut story = wrapped(&format!("event {position}:"), &words::event(&self.event));
+        let mut story = wrapped(&format!("event {position}:"), &self.event.in_words());
         story += &row("line", &format!("{position} {}", self.line));
         story += &row("answer", &words::answer(&self.event, &self.answer));
         if let Answer::Report { wakings, .. } = &self.answer {

@@ -1,4 +1,4 @@
-//! The seven events and their bodies in a run file.
+//! The seven events and their bodies in a run file, read and written.
 
 use crate::bad::Bad;
 
@@ -44,4 +44,51 @@ impl<'a> Event<'a> {
             [_, ..] => return Err(Bad::Kind),
         })
     }
+}
+
+/// The body of one event, as the functions below write it for tests and for the comparer.
+pub type Body = Vec<u8>;
+/// Number, amount and flags of one operation.
+pub type Operation = (u16, i16, u16);
+
+pub fn create(count: u8, read: u8, alter: u8) -> Body {
+    vec![1, count, read, alter]
+}
+
+/// The number of operations is the low byte of their count.
+pub fn operate(process: u8, identifier: i32, operations: &[Operation]) -> Body {
+    let [a, b, c, d] = identifier.to_le_bytes();
+    let mut body = vec![2, process, a, b, c, d, operations.len() as u8];
+    for (number, amount, flags) in operations {
+        body.extend_from_slice(&number.to_le_bytes());
+        body.extend_from_slice(&amount.to_le_bytes());
+        body.extend_from_slice(&flags.to_le_bytes());
+    }
+    body
+}
+
+pub fn set_value(identifier: i32, number: u16, value: i32) -> Body {
+    let [a, b, c, d] = identifier.to_le_bytes();
+    let [n, m] = number.to_le_bytes();
+    let [e, f, g, h] = value.to_le_bytes();
+    vec![3, a, b, c, d, n, m, e, f, g, h]
+}
+
+pub fn remove(identifier: i32) -> Body {
+    let [a, b, c, d] = identifier.to_le_bytes();
+    vec![4, a, b, c, d]
+}
+
+pub fn signal(process: u8) -> Body {
+    vec![5, process]
+}
+
+pub fn exit(process: u8) -> Body {
+    vec![6, process]
+}
+
+pub fn query(identifier: i32, number: u16) -> Body {
+    let [a, b, c, d] = identifier.to_le_bytes();
+    let [n, m] = number.to_le_bytes();
+    vec![7, a, b, c, d, n, m]
 }

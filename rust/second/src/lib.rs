@@ -8,7 +8,7 @@
 mod answer;
 mod bad;
 mod errno;
-mod event;
+pub mod event;
 mod handle;
 mod host;
 mod judge;
@@ -18,14 +18,14 @@ mod queue;
 mod runfile;
 mod set;
 mod waking;
-pub mod write;
 
 pub use answer::{Answer, Report, State, Waking, Wakings};
 pub use bad::Bad;
 pub use errno::Errno;
 pub use event::Event;
 pub use host::{Host, Rule};
-pub use runfile::{RunFile, FILE_MAX};
+pub use judge::{IPC_NOWAIT as NOWAIT, SEM_UNDO as UNDO};
+pub use runfile::{run_file, RunFile, ENTRY, FILE_MAX, HEAD};
 pub use set::Set;
 
 /// The whole text that the program writes for `file`.

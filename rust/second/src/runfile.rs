@@ -1,14 +1,14 @@
 //! The run file: a table of contents, then the bodies.
 
 use crate::bad::Bad;
-use crate::event::Event;
+use crate::event::{Body, Event};
 
 /// The largest run file, in bytes.
 pub const FILE_MAX: usize = 65_535;
 
 /// Bytes of the head, and of one entry of the table.
-const HEAD: usize = 2;
-const ENTRY: usize = 4;
+pub const HEAD: usize = 2;
+pub const ENTRY: usize = 4;
 
 /// A file found good as a whole.
 #[derive(Clone, Copy, Debug)]
@@ -38,6 +38,16 @@ impl<'a> RunFile<'a> {
 
     pub fn events(&self) -> impl Iterator<Item = Event<'a>> {
         self.bodies().map(|body| Event::decode(body).expect("every body was checked by read"))
+    }
+
+    /// The bodies in order, once the offsets are known to be good.
+    pub fn bodies(&self) -> impl Iterator<Item = &'a [u8]> {
+        let mut rest = self.bodies;
+        self.entries().map(move |(_, length)| {
+            let (body, behind) = rest.split_at(length);
+            rest = behind;
+            body
+        })
     }
 
     fn split(file: &'a [u8]) -> Result<RunFile<'a>, Bad> {
@@ -75,14 +85,18 @@ impl<'a> RunFile<'a> {
             (usize::from(offset), usize::from(length))
         })
     }
+}
 
-    /// The bodies in order, once the offsets are known to be good.
-    fn bodies(&self) -> impl Iterator<Item = &'a [u8]> {
-        let mut rest = self.bodies;
-        self.entries().map(move |(_, length)| {
-            let (body, behind) = rest.split_at(length);
-            rest = behind;
-            body
-        })
+/// The file with these bodies behind its table. Where it grows beyond what a run file may have,
+/// the table keeps the low sixteen bits.
+pub fn run_file(bodies: &[Body]) -> Vec<u8> {
+    let mut file = (bodies.len() as u16).to_le_bytes().to_vec();
+    let mut offset = HEAD + ENTRY * bodies.len();
+    for body in bodies {
+        file.extend_from_slice(&(offset as u16).to_le_bytes());
+        file.extend_from_slice(&(body.len() as u16).to_le_bytes());
+        offset += body.len();
     }
+    file.extend(bodies.iter().flatten());
+    file
 }

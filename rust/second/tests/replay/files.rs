@@ -1,7 +1,7 @@
 //! Good and bad run files, byte by byte.
 
-use second::write::{exit, operate, query, remove, run_file, set_value, signal};
-use second::Rule;
+use second::event::{exit, operate, query, remove, set_value, signal};
+use second::{run_file, Rule};
 
 use crate::{create, text};
 

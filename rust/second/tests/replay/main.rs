@@ -5,12 +5,12 @@ mod program;
 mod rules;
 mod situations;
 
-use second::write::{self, Body};
-use second::{replay, Rule};
+use second::event::{self, Body};
+use second::{replay, run_file, Rule};
 
 /// A set of eight semaphores, all processes permitted.
 fn create() -> Body {
-    write::create(8, 0xFF, 0xFF)
+    event::create(8, 0xFF, 0xFF)
 }
 
 fn text(file: &[u8], rule: Rule) -> String {
@@ -32,6 +32,11 @@ fn check(run: &[(Body, &str)]) {
             }
             wanted += "\n";
         }
-        assert_eq!(text(&write::run_file(&bodies), rule), wanted, "by {rule:?}");
+        assert_eq!(text(&run_file(&bodies), rule), wanted, "by {rule:?}");
     }
+}
+
+/// The same, once a set is created.
+fn check_on_a_set(run: &[(Body, &str)]) {
+    check(&[&[(create(), "0 0 0")], run].concat());
 }

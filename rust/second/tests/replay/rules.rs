@@ -1,16 +1,17 @@
 //! Rules and readings that the situations leave out.
 
-use second::write::{self, exit, operate, query, remove, set_value, signal, NOWAIT, UNDO};
+use second::event::{self, exit, operate, query, remove, set_value, signal};
+use second::{NOWAIT, UNDO};
 
-use crate::{check, create};
+use crate::{check, check_on_a_set, create};
 
 #[test]
 fn checks_go_in_their_order() {
     let many = [(99, 1, 0); 9];
     check(&[
-        (write::create(0, 1, 1), "22 0 0"),
-        (write::create(9, 1, 1), "22 0 0"),
-        (write::create(2, 0b01, 0b10), "0 0 0"),
+        (event::create(0, 1, 1), "22 0 0"),
+        (event::create(9, 1, 1), "22 0 0"),
+        (event::create(2, 0b01, 0b10), "0 0 0"),
         (operate(0, 0, &[]), "3 0 0"),
         (operate(9, 0, &[]), "3 0 0"),
         (operate(1, 99, &[]), "22 0 0"),
@@ -27,13 +28,12 @@ fn checks_go_in_their_order() {
 
 #[test]
 fn refusals_of_the_other_events() {
-    check(&[
-        (create(), "0 0 0"),
+    check_on_a_set(&[
         (create(), "0 1 0"),
         (create(), "0 2 0"),
-        (write::create(2, 0, 0), "0 3 0"),
+        (event::create(2, 0, 0), "0 3 0"),
         (create(), "28 0 0"),
-        (write::create(0, 0, 0), "22 0 0"),
+        (event::create(0, 0, 0), "22 0 0"),
         (set_value(4, 0, 99_999), "22 0 0"),
         (set_value(3, 2, 99_999), "22 0 0"),
         (set_value(3, 1, 32_768), "34 0 0"),
@@ -52,8 +52,7 @@ fn refusals_of_the_other_events() {
 /// +1, -1 in one array touches nothing, so the quick rule looks at nobody; the plain rule does.
 #[test]
 fn touched_means_another_value_at_the_end() {
-    check(&[
-        (create(), "0 0 0"),
+    check_on_a_set(&[
         (operate(1, 0, &[(0, -1, 0)]), "-1 0 0"),
         (operate(2, 0, &[(0, 1, 0), (0, -1, 0)]), "0 0 0/1"),
         (set_value(0, 0, 0), "0 0 1"),
@@ -65,8 +64,7 @@ fn touched_means_another_value_at_the_end() {
 #[test]
 fn set_value_to_the_same_number_can_wake() {
     let up = (0, 20_000, UNDO);
-    check(&[
-        (create(), "0 0 0"),
+    check_on_a_set(&[
         (set_value(0, 0, 32_767), "0 0 0"),
         (operate(1, 0, &[(0, -32_767, UNDO)]), "0 0 0"),
         (operate(1, 0, &[up, (0, -20_000, 0), up, (1, -1, 0)]), "-1 0 0"),
@@ -76,8 +74,7 @@ fn set_value_to_the_same_number_can_wake() {
 
 #[test]
 fn wait_counts_are_of_the_operation_that_stops_now() {
-    check(&[
-        (create(), "0 0 0"),
+    check_on_a_set(&[
         (operate(1, 0, &[(0, -1, 0), (1, 0, 0)]), "-1 0 0"),
         (set_value(0, 1, 3), "0 0 1"),
         (query(0, 0), "0 0 0 1 0"),
@@ -94,8 +91,7 @@ fn wait_counts_are_of_the_operation_that_stops_now() {
 /// exits has no waking.
 #[test]
 fn exit_treats_all_sets() {
-    check(&[
-        (create(), "0 0 0"),
+    check_on_a_set(&[
         (create(), "0 1 0"),
         (set_value(0, 0, 1), "0 0 0"),
         (set_value(1, 0, 1), "0 0 0"),
@@ -114,8 +110,7 @@ fn exit_treats_all_sets() {
 /// An ending with 11 begins a new round too: the plain rule looks at the oldest once more.
 #[test]
 fn an_ending_begins_a_new_round() {
-    check(&[
-        (create(), "0 0 0"),
+    check_on_a_set(&[
         (operate(1, 0, &[(1, -1, 0)]), "-1 0 0"),
         (operate(2, 0, &[(0, 0, NOWAIT), (1, -1, 0)]), "-1 0 0"),
         (operate(3, 0, &[(0, 0, 0), (1, -1, 0)]), "-1 0 0"),
@@ -126,8 +121,7 @@ fn an_ending_begins_a_new_round() {
 /// The first operation that stops or gives 34 decides; IPC_NOWAIT counts only where it stops.
 #[test]
 fn the_first_operation_decides() {
-    check(&[
-        (create(), "0 0 0"),
+    check_on_a_set(&[
         (operate(1, 0, &[(0, -1, NOWAIT), (1, -1, 0)]), "11 0 0"),
         (operate(1, 0, &[(0, -1, 0), (1, -1, NOWAIT)]), "-1 0 0"),
         (operate(2, 0, &[(1, 32_767, 0), (1, 1, 0), (2, -1, NOWAIT)]), "34 0 0"),

@@ -1,14 +1,13 @@
 //! The situations on the reviewer's desk, as whole runs.
 
-use second::write::{exit, operate, query, remove, set_value, NOWAIT, UNDO};
-use second::{Event, Host, Rule};
+use second::event::{exit, operate, query, remove, set_value};
+use second::{Event, Host, Rule, NOWAIT, UNDO};
 
-use crate::{check, create};
+use crate::{check_on_a_set, create};
 
 #[test]
 fn situation_1_an_array_is_judged_in_order() {
-    check(&[
-        (create(), "0 0 0"),
+    check_on_a_set(&[
         (operate(1, 0, &[(0, 1, 0), (0, -1, 0)]), "0 0 0"),
         (query(0, 0), "0 0 1 0 0"),
         (operate(2, 0, &[(0, -1, 0), (0, 1, 0)]), "-1 0 0"),
@@ -18,8 +17,7 @@ fn situation_1_an_array_is_judged_in_order() {
 
 #[test]
 fn situation_2_the_largest_value() {
-    check(&[
-        (create(), "0 0 0"),
+    check_on_a_set(&[
         (set_value(0, 0, 32_766), "0 0 0"),
         (operate(1, 0, &[(0, 1, 0)]), "0 0 0"),
         (query(0, 0), "0 32767 1 0 0"),
@@ -30,8 +28,7 @@ fn situation_2_the_largest_value() {
 
 #[test]
 fn situation_3_the_smallest_amount_always_stops() {
-    check(&[
-        (create(), "0 0 0"),
+    check_on_a_set(&[
         (set_value(0, 0, 32_767), "0 0 0"),
         (operate(1, 0, &[(0, -32_768, NOWAIT)]), "11 0 0"),
         (operate(1, 0, &[(0, -32_768, 0)]), "-1 0 0"),
@@ -41,8 +38,7 @@ fn situation_3_the_smallest_amount_always_stops() {
 
 #[test]
 fn situation_4_undo_is_cut_at_zero() {
-    check(&[
-        (create(), "0 0 0"),
+    check_on_a_set(&[
         (operate(1, 0, &[(0, 3, UNDO)]), "0 0 0"),
         (operate(2, 0, &[(0, -2, 0)]), "0 0 0"),
         (exit(1), "0 0 0"),
@@ -52,8 +48,7 @@ fn situation_4_undo_is_cut_at_zero() {
 
 #[test]
 fn situation_5_undo_is_cut_at_the_largest_value() {
-    check(&[
-        (create(), "0 0 0"),
+    check_on_a_set(&[
         (operate(1, 0, &[(0, 10, 0)]), "0 0 0"),
         (operate(1, 0, &[(0, -10, UNDO)]), "0 0 0"),
         (operate(2, 0, &[(0, 32_765, 0)]), "0 0 0"),
@@ -64,8 +59,7 @@ fn situation_5_undo_is_cut_at_the_largest_value() {
 
 #[test]
 fn situation_6_set_value_clears_adjustments() {
-    check(&[
-        (create(), "0 0 0"),
+    check_on_a_set(&[
         (set_value(0, 0, 5), "0 0 0"),
         (operate(1, 0, &[(0, -5, UNDO)]), "0 0 0"),
         (set_value(0, 0, 1), "0 0 0"),
@@ -76,8 +70,7 @@ fn situation_6_set_value_clears_adjustments() {
 
 #[test]
 fn situation_7_woken_with_34() {
-    check(&[
-        (create(), "0 0 0"),
+    check_on_a_set(&[
         (operate(1, 0, &[(0, 5, 0), (1, -1, 0)]), "-1 0 0"),
         (set_value(0, 0, 32_765), "0 0 1 1=34"),
         (query(0, 0), "0 32765 0 0 0"),
@@ -86,8 +79,7 @@ fn situation_7_woken_with_34() {
 
 #[test]
 fn situation_8_woken_with_11() {
-    check(&[
-        (create(), "0 0 0"),
+    check_on_a_set(&[
         (operate(1, 0, &[(0, 0, NOWAIT), (1, -1, 0)]), "-1 0 0"),
         (set_value(0, 0, 1), "0 0 1 1=11"),
         (query(0, 1), "0 0 0 0 0"),
@@ -96,8 +88,7 @@ fn situation_8_woken_with_11() {
 
 #[test]
 fn situation_9_adjustment_out_of_range() {
-    check(&[
-        (create(), "0 0 0"),
+    check_on_a_set(&[
         (operate(1, 0, &[(0, 32_767, UNDO)]), "0 0 0"),
         (operate(2, 0, &[(0, -1, 0)]), "0 0 0"),
         (operate(1, 0, &[(0, 1, UNDO)]), "34 0 0"),
@@ -107,8 +98,7 @@ fn situation_9_adjustment_out_of_range() {
 
 #[test]
 fn situation_10_the_newer_is_woken() {
-    check(&[
-        (create(), "0 0 0"),
+    check_on_a_set(&[
         (operate(1, 0, &[(0, -2, 0)]), "-1 0 0"),
         (operate(2, 0, &[(0, -1, 0)]), "-1 0 0"),
         (operate(3, 0, &[(0, 1, 0)]), "0 0 3 2=0"),
@@ -118,19 +108,18 @@ fn situation_10_the_newer_is_woken() {
 
 #[test]
 fn situation_11_a_chain_of_eight() {
-    let mut run = vec![(create(), "0 0 0"), (operate(1, 0, &[(0, -1, 0)]), "-1 0 0")];
+    let mut run = vec![(operate(1, 0, &[(0, -1, 0)]), "-1 0 0")];
     for j in 1..8 {
         let array = [(u16::from(j), -1, 0), (u16::from(j) - 1, 1, 0)];
         run.push((operate(j + 1, 0, &array), "-1 0 0"));
     }
     run.push((set_value(0, 7, 1), "0 0 8/36 8=0 7=0 6=0 5=0 4=0 3=0 2=0 1=0"));
-    check(&run);
+    check_on_a_set(&run);
 }
 
 #[test]
 fn situation_12_removal_ends_sleepers_and_identifiers() {
-    check(&[
-        (create(), "0 0 0"),
+    check_on_a_set(&[
         (operate(3, 0, &[(0, -1, 0)]), "-1 0 0"),
         (operate(5, 0, &[(1, -1, 0)]), "-1 0 0"),
         (remove(0), "0 0 0 3=43 5=43"),
@@ -162,8 +151,7 @@ fn first_identifier(host: &Host) -> Option<i32> {
 #[test]
 fn situation_13_eight_is_the_limit() {
     let zeros = [(0, 0, 0); 9];
-    check(&[
-        (create(), "0 0 0"),
+    check_on_a_set(&[
         (operate(1, 0, &zeros[..8]), "0 0 0"),
         (operate(1, 0, &zeros), "7 0 0"),
         (operate(1, 0, &[(7, 0, 0)]), "0 0 0"),

@@ -1,0 +1,15 @@
+//! The fields that events are made of.
+
+use crate::operation::Operation;
+
+/// A field, by what it holds, and where its value lies.
+pub enum Field<'a> {
+    Count(&'a mut u8),
+    Process(&'a mut u8),
+    Identifier(&'a mut i32),
+    /// The number of a semaphore.
+    Number(&'a mut u16),
+    Value(&'a mut i32),
+    Mask(&'a mut u8),
+    Operations(&'a mut Vec<Operation>),
+}
