@@ -11,6 +11,7 @@ use lib.Dec.{eqb, ltb}
 use lib.ListN.{length, getD, set, List·getD-eq-default, List·getD-map}
 use lib.Seq.{sets, set-out}
 use Rattle.host.specs.Parts.{Part, generations, counts, readers, alterers, values, lasts, asleep, order, sleepsAt, sizes, names, arrays, number, Shape, shape, table, placeFrom, place, behind, hostBytes, numberAt, bytesOf, Row, rowIn, with, put}
+use Rattle.host.specs.Holding.{Kept, kept}
 use Rattle.host.proofs.Numbers.{Wrote, stored, number-stored, length-numbers, numbers-at, numbers-beyond, numbers-set, under, over}
 
 -- a function is known by its values
@@ -33,7 +34,7 @@ abbrev ofTable : List Part
 ofTable = values ∷ lasts ∷ []
 
 abbrev ofQueue : List Part
-ofQueue = asleep ∷ order ∷ sleepsAt ∷ sizes ∷ names ∷ arrays ∷ []
+ofQueue = asleep ∷ order ∷ map (λ (k : Kept). k .part) kept ++ arrays ∷ []
 
 abbrev pub parts : List Part
 parts = ofSets ++ ofTable ++ ofQueue

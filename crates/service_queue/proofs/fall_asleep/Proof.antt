@@ -45,7 +45,7 @@ count-is : (c : tie.After-asleep-of) → c .asleep-of .result ≡ length (queueI
 count-is c =
     let s = c .before .before .before .before .before .before .before .before in
     c .asleep-of .ensures
-    ∙ before-it (s .pre .0) (sleeper s) (s .pre .1 .0) (s .pre .1 .1 .0) (s .pre .1 .1 .1 .0) (c .before .before .before .before .before .store-array .ensures) (mask-is (c .before .before .before)) (c .before .before .put-call .ensures)
+    ∙ before-it (s .pre .0) (sleeper s) (s .pre .1 .0) (s .pre .1 .1 .0) (s .pre .1 .1 .1 .0) (c .before .before .before .before .before .store-array .ensures) (rw (mask-is (c .before .before .before)) at (c .before .before .put-call .ensures))
 
 cast-put-asleep : tie.Need-cast-put-asleep
 cast-put-asleep c = omega (arith, count-is (c .before .before .before), c .before .before .before .before .before .before .before .before .before .before .before .pre .1 .1 .1 .0)
@@ -59,7 +59,7 @@ put-asleep-requires c κs = search needs
 returns : tie.Need-returns
 returns c =
     let s = c .before .before .before .before .before .before .before .before .before .before .before .before in
-    joined-behind (s .pre .0) (sleeper s) (s .pre .1 .0) (s .pre .1 .1 .0) (s .pre .1 .1 .1 .0) (c .before .before .before .before .before .before .before .before .before .store-array .ensures) (mask-is (c .before .before .before .before .before .before .before)) (c .before .before .before .before .before .before .put-call .ensures)
+    joined-behind (s .pre .0) (sleeper s) (s .pre .1 .0) (s .pre .1 .1 .0) (s .pre .1 .1 .1 .0) (c .before .before .before .before .before .before .before .before .before .store-array .ensures) (rw (mask-is (c .before .before .before .before .before .before .before)) at (c .before .before .before .before .before .before .put-call .ensures))
     (c .before .before .before .before .asleep-of .ensures) (c .before .before .put-process .ensures) (c .put-asleep .ensures)
 
 pub fall-asleep-spec : {M : Type 1} → statement M
