@@ -13,7 +13,7 @@ use lib.Seq.{sets, take-take, take-nil, drop-drop, drop-cons, take-all}
 use Rattle.model.specs.Limits.{slots, semaphores, processes, arrayBytes, allAdjustments}
 use Rattle.model.specs.State.{undoRow}
 use Rattle.model.specs.Checks.{noProcess}
-use Rattle.host.specs.Parts.{Part, sleepsAt, sizes, names, arrays, place, hostBytes, numberAt, bytesOf, numbersFrom, Row, rowIn, with, put}
+use Rattle.host.specs.Parts.{Part, sizes, arrays, place, hostBytes, numberAt, bytesOf, numbersFrom, Row, rowIn, with, put}
 use Rattle.host.specs.Rows.{undoAt}
 use Rattle.host.specs.Holding.{entry, arrayIn}
 use Rattle.host.proofs.Numbers.{one-byte}
