@@ -10,8 +10,7 @@ use borrow.Author.Tests.{eqb-true, eqb-false, eq-eqb, ltb-true, ltb-false}
 use lib.Dec.{eqb, ltb}
 use lib.ListN.{length, getD, set, List·getD-eq-default, List·getD-map}
 use lib.Seq.{sets, set-out}
-use Rattle.host.specs.Parts.{Part, generations, counts, readers, alterers, values, lasts, asleep, order, sleepsAt, sizes, names, arrays, number, Shape, shape, table, placeFrom, place, behind, hostBytes, numberAt, bytesOf, Row, rowIn, with, put}
-use Rattle.host.specs.Holding.{Kept, kept}
+use Rattle.host.specs.Parts.{Part, arrays, ofSets, ofTable, ofQueue, parts, part, listed, number, Shape, table, placeFrom, place, behind, hostBytes, numberAt, bytesOf, Row, rowIn, with, put}
 use Rattle.host.proofs.Numbers.{Wrote, stored, number-stored, length-numbers, numbers-at, numbers-beyond, numbers-set, under, over}
 
 -- a function is known by its values
@@ -25,49 +24,29 @@ less-or-not i m = go (ltb i m) refl
     go true e = inl (ltb-true i m e)
     go false e = inr (ltb-false i m e)
 
--- ---- all parts, in three groups: of the sets, of the table, of the queue
+-- ---- all parts
 
-abbrev ofSets : List Part
-ofSets = generations ∷ counts ∷ readers ∷ alterers ∷ []
-
-abbrev ofTable : List Part
-ofTable = values ∷ lasts ∷ []
-
-abbrev ofQueue : List Part
-ofQueue = asleep ∷ order ∷ map (λ (k : Kept). k .part) kept ++ arrays ∷ []
-
-abbrev pub parts : List Part
-parts = ofSets ++ ofTable ++ ofQueue
-
--- each stands at its number: the one law that goes part by part
-found : {A : Type 0} (d : A) (f : Part → A) (p : Part) → getD (map f parts) (number p) d ≡ f p
-found d f generations = refl
-found d f counts = refl
-found d f readers = refl
-found d f alterers = refl
-found d f values = refl
-found d f lasts = refl
-found d f asleep = refl
-found d f order = refl
-found d f sleepsAt = refl
-found d f sizes = refl
-found d f names = refl
-found d f arrays = refl
+-- each stands at its number
+found : {A : Type 0} (f : Part → A) (p : Part) → getD (map f parts) (number p) (f arrays) ≡ f p
+found f p = List·getD-map f parts (number p) arrays ∙ ap f (listed p .stands)
 
 -- so parts are told apart by their numbers
 told-apart : (p q : Part) → number p ≡ number q → p ≡ q
-told-apart p q e = sym (found arrays (λ (x : Part). x) p) ∙ ap (λ (n : ℕ). getD (map (λ (x : Part). x) parts) n arrays) e ∙ found arrays (λ (x : Part). x) q
+told-apart p q e = sym (listed p .stands) ∙ ap part e ∙ listed q .stands
 
 -- there are no more than the table has
 few : (p : Part) → number p < length table
-few p = ⊎-elim (λ a. a) (λ b. absurd (let z : _≡_ {A = ℕ} 0 1 = none b in omega arith)) (less-or-not (number p) (length table))
+few p = ⊎-elim (λ a. a) (λ b. absurd (none b)) (less-or-not (number p) (length table))
   where
-    none : length table ≤ number p → _≡_ {A = ℕ} 0 1
-    none b = sym (List·getD-eq-default (map (λ (x : Part). 1) parts) 0 b) ∙ found 0 (λ (x : Part). 1) p
+    none : length table ≤ number p → ⊥
+    none b = omega (arith, ap number (sym (List·getD-eq-default parts arrays b) ∙ listed p .stands))
 
 -- and a row is known by its parts, or by its three groups
 pub by-parts : (r s : Row) → map r parts ≡ map s parts → r ≡ s
-by-parts r s e = by-values (λ p. sym (found [] r p) ∙ ap (λ (l : List (List ℕ)). getD l (number p) []) e ∙ found [] s p)
+by-parts r s e = by-values (λ p. sym (found r p) ∙ ap₂ (λ (l : List (List ℕ)) (d : List ℕ). getD l (number p) d) e last ∙ found s p)
+  where
+    last : r arrays ≡ s arrays
+    last = ap (λ (l : List (List ℕ)). getD l (number arrays) []) e
 
 abbrev pub setParts : Row → List (List ℕ)
 setParts r = map r ofSets
@@ -86,16 +65,13 @@ abbrev countFrom : ℕ → ℕ → List ℕ
 countFrom a zero = []
 countFrom a (suc n) = a ∷ countFrom (suc a) n
 
-count-at : (n a i : ℕ) → i < n → getD (countFrom a n) i 0 ≡ a + i
-count-at zero a i l = absurd (not-suc-le-zero l)
-count-at (suc n) a zero l = omega arith
-count-at (suc n) a (suc i) l = count-at n (suc a) i (le-of-suc-le-suc l) ∙ omega arith
-
-abbrev pub part : ℕ → Part
-part n = getD parts n generations
+count-at : (d n a i : ℕ) → i < n → getD (countFrom a n) i d ≡ a + i
+count-at d zero a i l = absurd (not-suc-le-zero l)
+count-at d (suc n) a zero l = omega arith
+count-at d (suc n) a (suc i) l = count-at d n (suc a) i (le-of-suc-le-suc l) ∙ omega arith
 
 pub numbered : (n : ℕ) → n < length table → number (part n) ≡ n
-numbered n l = sym (List·getD-map number parts n generations) ∙ count-at (length table) 0 n l ∙ omega arith
+numbered n l = sym (List·getD-map number parts n arrays) ∙ count-at (number arrays) (length table) 0 n l ∙ omega arith
 
 -- ---- the places are in order
 

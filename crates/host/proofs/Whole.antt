@@ -7,9 +7,9 @@ use mathlib.Core.Logic.{⊎-elim}
 use mathlib.Core.List.{List, [], _∷_}
 use lib.ListN.{length, getD}
 use lib.Seq.{ext-getD}
-use Rattle.host.specs.Parts.{Shape, table, Place, placeFrom, hostBytes, numberAt, numbersFrom, Row, rowIn}
+use Rattle.host.specs.Parts.{part, Shape, table, Place, placeFrom, hostBytes, numberAt, numbersFrom, Row, rowIn}
 use Rattle.host.proofs.Numbers.{numbers-at}
-use Rattle.host.proofs.PartLaws.{less-or-not, part, numbered}
+use Rattle.host.proofs.PartLaws.{less-or-not, numbered}
 
 -- every element is a byte
 abbrev pub Bytes : List ℕ → Type 0
