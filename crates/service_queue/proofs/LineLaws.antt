@@ -92,7 +92,7 @@ module _ {r r₁ r₂ : Row} {p size : ℕ} (k : Lined r) (at : ℕ) (h : at < l
 
 -- ---- one joins
 
-module _ {r r₁ r₂ : Row} (k : Lined r) (s : Sleeper) (room : Room s) (a : Awake (s .process) (queueIn r)) (h : length (queueIn r) < processes)
+module _ {r r₁ r₂ : Row} {s : Sleeper} (k : Lined r) (room : Room s) (a : Awake (s .process) (queueIn r)) (h : length (queueIn r) < processes)
     (e₁ : r₁ ≡ with r arrays (sets (r arrays) (arrayBytes * entry (s .process)) (take arrayBytes (s .array))))
     (e₂ : r₂ ≡ withEntry kept (s .process) (λ (k : Kept). k .of s) r₁) where
   stored : r₂ ≡ withEntry kept (s .process) (λ (k : Kept). k .of s) (with r arrays (sets (r arrays) (arrayBytes * entry (s .process)) (take arrayBytes (s .array))))
