@@ -34,14 +34,14 @@ found f p = List·getD-map f parts (number p) arrays ∙ ap f (listed p .stands)
 told-apart : (p q : Part) → number p ≡ number q → p ≡ q
 told-apart p q e = sym (listed p .stands) ∙ ap part e ∙ listed q .stands
 
--- there are no more than the table has
+-- there are no more of them than the table has
 few : (p : Part) → number p < length table
 few p = ⊎-elim (λ a. a) (λ b. absurd (none b)) (less-or-not (number p) (length table))
   where
     none : length table ≤ number p → ⊥
     none b = omega (arith, ap number (sym (List·getD-eq-default parts arrays b) ∙ listed p .stands))
 
--- and a row is known by its parts, or by its three groups
+-- a row is known by its parts, or by those of the sets, of the table and of the queue
 pub by-parts : (r s : Row) → map r parts ≡ map s parts → r ≡ s
 by-parts r s e = by-values (λ p. sym (found r p) ∙ ap₂ (λ (l : List (List ℕ)) (d : List ℕ). getD l (number p) d) e last ∙ found s p)
   where
@@ -60,7 +60,7 @@ queueParts r = map r ofQueue
 pub by-groups : (r s : Row) → setParts r ≡ setParts s → tableParts r ≡ tableParts s → queueParts r ≡ queueParts s → r ≡ s
 by-groups r s a b c = by-parts r s (ap₂ (λ (x y : List (List ℕ)). x ++ y) a (ap₂ (λ (x y : List (List ℕ)). x ++ y) b c))
 
--- the part with a number
+-- every number that the table has is a part's
 abbrev countFrom : ℕ → ℕ → List ℕ
 countFrom a zero = []
 countFrom a (suc n) = a ∷ countFrom (suc a) n

@@ -1,4 +1,5 @@
--- Parts whose numbers are bytes: one of them, several in a loop, and a stretch of them in place; and where adjustments begin.
+-- Parts whose numbers are bytes: one of them, one after the other, several in a loop, and a stretch of them in place; and
+-- where adjustments begin.
 use Prim.Native.Nat.{ℕ, zero, suc, min, _+_, _*_, _-_, _%_, _^_, _≤_, _<_}
 use native.Mathlib.Nat.{min-eq-left, min-eq-right, min-le-left}
 use native.Mathlib.Omega.{arith}
