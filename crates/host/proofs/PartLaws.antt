@@ -2,67 +2,20 @@
 use Prim.Native.Nat.{ℕ, zero, suc, _+_, _*_, _^_, _≤_, _<_}
 use native.Mathlib.Nat.{not-suc-le-zero, le-of-suc-le-suc, mul-le-mul-left, mul-suc}
 use native.Mathlib.Omega.{arith}
-use mathlib.Core.Path.{_≡_, refl, sym, ap, subst, _∙_}
+use mathlib.Core.Path.{_≡_, refl, sym, ap, ap₂, subst, _∙_}
 use mathlib.Core.Logic.{_⊎_, inl, inr, ⊎-elim}
 use mathlib.Core.Bool.{Bool, true, false, cond}
-use mathlib.Core.List.{List, [], _∷_}
+use mathlib.Core.List.{List, [], _∷_, _++_, map}
 use borrow.Author.Tests.{eqb-true, eqb-false, eq-eqb, ltb-true, ltb-false}
-use lib.Dec.{eqb, ltb, lit<}
-use lib.ListN.{length, getD, set}
+use lib.Dec.{eqb, ltb}
+use lib.ListN.{length, getD, set, List·getD-eq-default, List·getD-map}
 use lib.Seq.{sets, set-out}
-use Rattle.host.specs.Parts.{Part, generations, counts, readers, alterers, values, lasts, asleep, order, sleepsAt, sizes, names, arrays, number, Shape, shape, table, placeFrom, place, behind, hostBytes, numberAt, bytesOf, Row, rowIn, with, put}
+use Rattle.host.specs.Parts.{Part, arrays, ofSets, ofTable, ofQueue, parts, part, listed, number, Shape, table, placeFrom, place, behind, hostBytes, numberAt, bytesOf, Row, rowIn, with, put}
 use Rattle.host.proofs.Numbers.{Wrote, stored, number-stored, length-numbers, numbers-at, numbers-beyond, numbers-set, under, over}
 
 -- a function is known by its values
 pub by-values : {A B : Type 0} {f g : A → B} → ((x : A) → f x ≡ g x) → f ≡ g
 by-values e = λ i x. e x i
-
--- ---- the parts in three groups: of the sets, of the table, of the queue
-
-pub record SetParts : Type 0 where
-  pub generations : List ℕ
-  pub counts : List ℕ
-  pub readers : List ℕ
-  pub alterers : List ℕ
-
-pub record TableParts : Type 0 where
-  pub values : List ℕ
-  pub lasts : List ℕ
-
-pub record QueueParts : Type 0 where
-  pub asleep : List ℕ
-  pub order : List ℕ
-  pub sleepsAt : List ℕ
-  pub sizes : List ℕ
-  pub names : List ℕ
-  pub arrays : List ℕ
-
-abbrev pub setParts : Row → SetParts
-setParts r = record { generations = r generations; counts = r counts; readers = r readers; alterers = r alterers }
-
-abbrev pub tableParts : Row → TableParts
-tableParts r = record { values = r values; lasts = r lasts }
-
-abbrev pub queueParts : Row → QueueParts
-queueParts r = record { asleep = r asleep; order = r order; sleepsAt = r sleepsAt; sizes = r sizes; names = r names; arrays = r arrays }
-
--- a row is known by its three groups
-pub by-groups : (r s : Row) → setParts r ≡ setParts s → tableParts r ≡ tableParts s → queueParts r ≡ queueParts s → r ≡ s
-by-groups r s a b c = by-values each
-  where
-    each : (p : Part) → r p ≡ s p
-    each generations = ap (λ (g : SetParts). g .generations) a
-    each counts = ap (λ (g : SetParts). g .counts) a
-    each readers = ap (λ (g : SetParts). g .readers) a
-    each alterers = ap (λ (g : SetParts). g .alterers) a
-    each values = ap (λ (g : TableParts). g .values) b
-    each lasts = ap (λ (g : TableParts). g .lasts) b
-    each asleep = ap (λ (g : QueueParts). g .asleep) c
-    each order = ap (λ (g : QueueParts). g .order) c
-    each sleepsAt = ap (λ (g : QueueParts). g .sleepsAt) c
-    each sizes = ap (λ (g : QueueParts). g .sizes) c
-    each names = ap (λ (g : QueueParts). g .names) c
-    each arrays = ap (λ (g : QueueParts). g .arrays) c
 
 pub less-or-not : (i m : ℕ) → (i < m) ⊎ (m ≤ i)
 less-or-not i m = go (ltb i m) refl
@@ -70,6 +23,55 @@ less-or-not i m = go (ltb i m) refl
     go : (t : Bool) → ltb i m ≡ t → (i < m) ⊎ (m ≤ i)
     go true e = inl (ltb-true i m e)
     go false e = inr (ltb-false i m e)
+
+-- ---- all parts
+
+-- each stands at its number
+found : {A : Type 0} (f : Part → A) (p : Part) → getD (map f parts) (number p) (f arrays) ≡ f p
+found f p = List·getD-map f parts (number p) arrays ∙ ap f (listed p .stands)
+
+-- so parts are told apart by their numbers
+told-apart : (p q : Part) → number p ≡ number q → p ≡ q
+told-apart p q e = sym (listed p .stands) ∙ ap part e ∙ listed q .stands
+
+-- there are no more of them than the table has
+few : (p : Part) → number p < length table
+few p = ⊎-elim (λ a. a) (λ b. absurd (none b)) (less-or-not (number p) (length table))
+  where
+    none : length table ≤ number p → ⊥
+    none b = omega (arith, ap number (sym (List·getD-eq-default parts arrays b) ∙ listed p .stands))
+
+-- a row is known by its parts, or by those of the sets, of the table and of the queue
+pub by-parts : (r s : Row) → map r parts ≡ map s parts → r ≡ s
+by-parts r s e = by-values (λ p. sym (found r p) ∙ ap₂ (λ (l : List (List ℕ)) (d : List ℕ). getD l (number p) d) e last ∙ found s p)
+  where
+    last : r arrays ≡ s arrays
+    last = ap (λ (l : List (List ℕ)). getD l (number arrays) []) e
+
+abbrev pub setParts : Row → List (List ℕ)
+setParts r = map r ofSets
+
+abbrev pub tableParts : Row → List (List ℕ)
+tableParts r = map r ofTable
+
+abbrev pub queueParts : Row → List (List ℕ)
+queueParts r = map r ofQueue
+
+pub by-groups : (r s : Row) → setParts r ≡ setParts s → tableParts r ≡ tableParts s → queueParts r ≡ queueParts s → r ≡ s
+by-groups r s a b c = by-parts r s (ap₂ (λ (x y : List (List ℕ)). x ++ y) a (ap₂ (λ (x y : List (List ℕ)). x ++ y) b c))
+
+-- every number that the table has is a part's
+abbrev countFrom : ℕ → ℕ → List ℕ
+countFrom a zero = []
+countFrom a (suc n) = a ∷ countFrom (suc a) n
+
+count-at : (d n a i : ℕ) → i < n → getD (countFrom a n) i d ≡ a + i
+count-at d zero a i l = absurd (not-suc-le-zero l)
+count-at d (suc n) a zero l = omega arith
+count-at d (suc n) a (suc i) l = count-at d n (suc a) i (le-of-suc-le-suc l) ∙ omega arith
+
+pub numbered : (n : ℕ) → n < length table → number (part n) ≡ n
+numbered n l = sym (List·getD-map number parts n arrays) ∙ count-at (number arrays) (length table) 0 n l ∙ omega arith
 
 -- ---- the places are in order
 
@@ -84,61 +86,14 @@ ordered a (s ∷ t) i zero l m = absurd (not-suc-le-zero l)
 ordered a (s ∷ t) zero (suc j) l m = later (a + s .width * s .count) t j
 ordered a (s ∷ t) (suc i) (suc j) l m = ordered (a + s .width * s .count) t i j (le-of-suc-le-suc l) (le-of-suc-le-suc m)
 
-pub few : (p : Part) → number p < 12
-few generations = lit< tt
-few counts = lit< tt
-few readers = lit< tt
-few alterers = lit< tt
-few values = lit< tt
-few lasts = lit< tt
-few asleep = lit< tt
-few order = lit< tt
-few sleepsAt = lit< tt
-few sizes = lit< tt
-few names = lit< tt
-few arrays = lit< tt
-
 before : (p q : Part) → number p < number q → behind (place p) ≤ place q .at
 before p q l = ordered 0 table (number p) (number q) l (few q)
 
 pub inside : (p : Part) → behind (place p) ≤ hostBytes
-inside p = ⊎-elim (λ a. omega (arith, before p arrays a)) (λ b. subst (λ (n : ℕ). behind (placeFrom 0 table n) ≤ hostBytes) (last b) (omega arith)) (less-or-not (number p) 11)
+inside p = ⊎-elim (λ a. omega (arith, before p arrays a)) (λ b. subst (λ (n : ℕ). behind (placeFrom 0 table n) ≤ hostBytes) (last b) (omega arith)) (less-or-not (number p) (number arrays))
   where
-    last : 11 ≤ number p → 11 ≡ number p
+    last : number arrays ≤ number p → number arrays ≡ number p
     last b = omega (arith, few p)
-
--- ---- the parts are told apart by their numbers
-
-abbrev part : ℕ → Part
-part zero = generations
-part (suc zero) = counts
-part (suc (suc zero)) = readers
-part (suc (suc (suc zero))) = alterers
-part (suc (suc (suc (suc zero)))) = values
-part (suc (suc (suc (suc (suc zero))))) = lasts
-part (suc (suc (suc (suc (suc (suc zero)))))) = asleep
-part (suc (suc (suc (suc (suc (suc (suc zero))))))) = order
-part (suc (suc (suc (suc (suc (suc (suc (suc zero)))))))) = sleepsAt
-part (suc (suc (suc (suc (suc (suc (suc (suc (suc zero))))))))) = sizes
-part (suc (suc (suc (suc (suc (suc (suc (suc (suc (suc zero)))))))))) = names
-part (suc (suc (suc (suc (suc (suc (suc (suc (suc (suc (suc n))))))))))) = arrays
-
-part-back : (p : Part) → part (number p) ≡ p
-part-back generations = refl
-part-back counts = refl
-part-back readers = refl
-part-back alterers = refl
-part-back values = refl
-part-back lasts = refl
-part-back asleep = refl
-part-back order = refl
-part-back sleepsAt = refl
-part-back sizes = refl
-part-back names = refl
-part-back arrays = refl
-
-told-apart : (p q : Part) → number p ≡ number q → p ≡ q
-told-apart p q e = sym (part-back p) ∙ ap part e ∙ part-back q
 
 -- ---- reading and writing a number
 

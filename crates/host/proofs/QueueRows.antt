@@ -15,10 +15,10 @@ use Rattle.model.specs.Runs.{All}
 use Rattle.model.specs.Invariant.{Fits, Distinct}
 use Rattle.model.proofs.Lists.{all-map, all-at, all-without, length-without}
 use Rattle.model.proofs.QueueLaws.{distinct-without, others-without, fits-few}
-use Rattle.host.specs.Parts.{Part, generations, counts, readers, alterers, values, lasts, asleep, order, sleepsAt, sizes, names, arrays, Row, with, put}
-use Rattle.host.specs.Holding.{byProcess, blocksFrom, orderOf, theSlot, theSize, withQueue, entry, withCall, arrayIn, sleeperIn, queueIn}
+use Rattle.host.specs.Parts.{asleep, order, sleepsAt, sizes, names, arrays, Row, with, put}
+use Rattle.host.specs.Holding.{byProcess, blocksFrom, orderOf, theSlot, theSize, Kept, kept, withQueue, entry, arrayIn, sleeperIn, queueIn}
 use Rattle.host.specs.Queue.{Room, Queued}
-use Rattle.host.proofs.PartLaws.{by-values}
+use Rattle.host.proofs.PartLaws.{by-groups}
 use Rattle.host.proofs.RowLaws.{sets-paste}
 use Rattle.host.proofs.ProcessLaws.{Awake, of-awake, of-none, of-first, of-before, of-without, of-own, of-process, by-changed, length-arrays, arrays-cleared, arrays-stored, array-read, arrayOf}
 
@@ -103,6 +103,21 @@ order-joined q s h =
     let e : length (map theProcess q) ≡ length q = length-map q theProcess in
     rw (order-placed q, order-placed (q ++ s ∷ []), map-append theProcess q (s ∷ []), ← e) (placed-joined processes 0 (map theProcess q) (s .process) (omega arith))
 
+-- ---- the numbers that are kept by process
+
+-- what a process has of them, replaced
+abbrev pub withEntry : List Kept → ℕ → (Kept → ℕ) → Row → Row
+withEntry [] p f r = r
+withEntry (k ∷ ks) p f r = withEntry ks p f (put r (k .part) (entry p) (f k))
+
+map-each : {A B : Type 0} {f g : A → B} (l : List A) → ((x : A) → f x ≡ g x) → map f l ≡ map g l
+map-each [] e = refl
+map-each {B = B} (x ∷ l) e = ap₂ (λ (y : B) (r : List B). y ∷ r) (e x) (map-each l e)
+
+-- the parts of two queues, one by one
+queue-parts : {a b c d e f : List ℕ} {l m : List (List ℕ)} → a ≡ b → c ≡ d → l ≡ m → e ≡ f → a ∷ c ∷ l ++ e ∷ [] ≡ b ∷ d ∷ m ++ f ∷ []
+queue-parts p q r s = cc
+
 -- ---- the sleeper at a position
 
 module _ (q : List Sleeper) (f : Queued q) (i : ℕ) (h : i < length q) where
@@ -136,11 +151,11 @@ module _ (q : List Sleeper) (f : Queued q) (i : ℕ) (h : i < length q) where
     array-read-back =
         let short : length (arrayOf (sleeper .process) q) ≤ arrayBytes = rw array-own (room-at .short) in
         let e : length (sleeper .array) ≡ length (arrayOf (sleeper .process) q) = ap length (sym array-own) in
-        rw (own theSize, entry-is (sleeper .process) (room-at .process), e)
+        rw (size-read, entry-is (sleeper .process) (room-at .process), e)
         (array-read q (sleeper .process) (room-at .process) (room-at .last) short ∙ array-own)
 
     pub sleeper-read : sleeperIn (withQueue r q) (getD q i noSleeper .process) ≡ getD q i noSleeper
-    sleeper-read = ap₂ (λ (n : ℕ) (l : List ℕ). record { process = sleeper .process; slot = n; array = l }) slot-read array-read-back
+    sleeper-read = rw array-read-back (simp own)
 
   -- .. once it is taken out
   others : Awake (getD q i noSleeper .process) (without q i)
@@ -167,26 +182,17 @@ module _ (q : List Sleeper) (f : Queued q) (i : ℕ) (h : i < length q) where
   emptied r =
       let p = getD q i noSleeper .process in
       let n = length (getD q i noSleeper .array) in
-      put (with (withCall (with r arrays (sets (r arrays) (arrayBytes * entry p) (take arrayBytes (replicate n 0)))) p 0 0 0) order (without (r order) i ++ 0 ∷ [])) asleep 0 (length q - 1)
+      put (with (withEntry kept p (λ (k : Kept). 0) (with r arrays (sets (r arrays) (arrayBytes * entry p) (take arrayBytes (replicate n 0))))) order (without (r order) i ++ 0 ∷ [])) asleep 0 (length q - 1)
 
   pub taken : (r : Row) → emptied (withQueue r q) ≡ withQueue r (without q i)
-  taken r = by-values each
-    where
-      each : (p : Part) → emptied (withQueue r q) p ≡ withQueue r (without q i) p
-      each generations = refl
-      each counts = refl
-      each readers = refl
-      each alterers = refl
-      each values = refl
-      each lasts = refl
-      each asleep = ap (λ (n : ℕ). n ∷ []) (omega (arith, length-without q i h))
-      each order = order-without q i h (f .few)
-      each sleepsAt = by-out theSlot
-      each sizes = by-out theSize
-      each names = by-out named
-      each arrays =
-          ap (λ (l : List ℕ). sets (blocksFrom processes 1 q) (arrayBytes * entry (sleeper .process)) l)
-          (take-all arrayBytes (replicate (length (sleeper .array)) 0) (omega (arith, length-replicate {A = ℕ} (length (sleeper .array)) 0, room-at .short))) ∙ arrays-out
+  taken r =
+      by-groups _ _ refl refl
+      (queue-parts
+      (ap (λ (n : ℕ). n ∷ []) (omega (arith, length-without q i h)))
+      (order-without q i h (f .few))
+      (map-each kept (λ k. by-out (k .of)))
+      (ap (λ (l : List ℕ). sets (blocksFrom processes 1 q) (arrayBytes * entry (sleeper .process)) l)
+      (take-all arrayBytes (replicate (length (sleeper .array)) 0) (omega (arith, length-replicate {A = ℕ} (length (sleeper .array)) 0, room-at .short))) ∙ arrays-out))
 
 -- ---- one that joins
 
@@ -209,24 +215,16 @@ module _ (q : List Sleeper) (f : Queued q) (s : Sleeper) (a : Awake (s .process)
   -- the writes that let it in
   abbrev pub joinedBy : Row → Row
   joinedBy r =
-      put (put (withCall (with r arrays (sets (r arrays) (arrayBytes * entry (s .process)) (take arrayBytes (s .array)))) (s .process) (s .slot) (length (s .array)) (named s)) order (length q) (s .process)) asleep 0 (length q + 1)
+      put (put (withEntry kept (s .process) (λ (k : Kept). k .of s) (with r arrays (sets (r arrays) (arrayBytes * entry (s .process)) (take arrayBytes (s .array))))) order (length q) (s .process)) asleep 0 (length q + 1)
 
   pub joined : (r : Row) → joinedBy (withQueue r q) ≡ withQueue r (q ++ s ∷ [])
-  joined r = by-values each
-    where
-      each : (p : Part) → joinedBy (withQueue r q) p ≡ withQueue r (q ++ s ∷ []) p
-      each generations = refl
-      each counts = refl
-      each readers = refl
-      each alterers = refl
-      each values = refl
-      each lasts = refl
-      each asleep = ap (λ (n : ℕ). n ∷ []) (sym (length-append q (s ∷ [])))
-      each order = order-joined q s l
-      each sleepsAt = by-in theSlot
-      each sizes = by-in theSize
-      each names = by-in named
-      each arrays = ap (λ (y : List ℕ). sets (blocksFrom processes 1 q) (arrayBytes * entry (s .process)) y) (take-all arrayBytes (s .array) (k .short)) ∙ arrays-in
+  joined r =
+      by-groups _ _ refl refl
+      (queue-parts
+      (ap (λ (n : ℕ). n ∷ []) (sym (length-append q (s ∷ []))))
+      (order-joined q s l)
+      (map-each kept (λ k. by-in (k .of)))
+      (ap (λ (y : List ℕ). sets (blocksFrom processes 1 q) (arrayBytes * entry (s .process)) y) (take-all arrayBytes (s .array) (k .short)) ∙ arrays-in))
 
 -- ---- the queue that the row shows is the one that it was made of
 

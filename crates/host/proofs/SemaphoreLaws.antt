@@ -15,10 +15,10 @@ use lib.Seq.{sets, set-comm, set-set, set-getD, set-out}
 use Rattle.model.specs.State.{row, freshState}
 use Rattle.model.specs.Operation.{hasBit}
 use Rattle.model.proofs.Bits.{bit-zero, bit-or-same, bit-or-other, hasBit-bit}
-use Rattle.host.specs.Parts.{Part, generations, counts, readers, alterers, values, lasts, asleep, order, sleepsAt, sizes, names, arrays, place, hostBytes, numberAt, bytesOf, numbersFrom, Row, rowIn, with, put}
+use Rattle.host.specs.Parts.{Part, place, hostBytes, numberAt, bytesOf, numbersFrom, Row, rowIn, with, put}
 use Rattle.host.specs.Rows.{maskedFrom, masked}
 use Rattle.host.specs.Holding.{ofProcess, byProcess, blocksFrom, orderOf, hostOf}
-use Rattle.host.proofs.PartLaws.{width, count, spot, by-values, length-part, read-part, write-part, with-again, with-same, with-here}
+use Rattle.host.proofs.PartLaws.{width, count, spot, by-values, by-parts, length-part, read-part, write-part, with-again, with-same, with-here}
 use Rattle.host.proofs.SleeperLaws.{byte-write}
 
 -- ---- a number of a part, from a place on
@@ -148,21 +148,9 @@ zeros (suc n) (suc j) = zeros n j
 
 pub zero-row : rowIn (replicate hostBytes 0) ≡ hostOf freshState .row
 unfolding rowIn ofProcess byProcess blocksFrom orderOf
-zero-row = by-values (λ p. zero-numbers (replicate hostBytes 0) (zeros hostBytes) (width p) (place p .at) (count p) ∙ each p)
-  where
-    each : (p : Part) → replicate (count p) 0 ≡ hostOf freshState .row p
-    each generations = refl
-    each counts = refl
-    each readers = refl
-    each alterers = refl
-    each values = refl
-    each lasts = refl
-    each asleep = refl
-    each order = refl
-    each sleepsAt = refl
-    each sizes = refl
-    each names = refl
-    each arrays = refl
+zero-row =
+    by-values (λ p. zero-numbers (replicate hostBytes 0) (zeros hostBytes) (width p) (place p .at) (count p))
+    ∙ by-parts (λ (p : Part). replicate (count p) 0) (hostOf freshState .row) refl
 
 -- ---- masks of places
 

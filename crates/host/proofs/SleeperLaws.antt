@@ -1,4 +1,5 @@
--- Parts whose numbers are bytes: one of them, several in a loop, and a stretch of them in place; and where adjustments begin.
+-- Parts whose numbers are bytes: one of them, one after the other, several in a loop, and a stretch of them in place; and
+-- where adjustments begin.
 use Prim.Native.Nat.{ℕ, zero, suc, min, _+_, _*_, _-_, _%_, _^_, _≤_, _<_}
 use native.Mathlib.Nat.{min-eq-left, min-eq-right, min-le-left}
 use native.Mathlib.Omega.{arith}
@@ -13,7 +14,7 @@ use lib.Seq.{sets, take-take, take-nil, drop-drop, drop-cons, take-all}
 use Rattle.model.specs.Limits.{slots, semaphores, processes, arrayBytes, allAdjustments}
 use Rattle.model.specs.State.{undoRow}
 use Rattle.model.specs.Checks.{noProcess}
-use Rattle.host.specs.Parts.{Part, sleepsAt, sizes, names, arrays, place, hostBytes, numberAt, bytesOf, numbersFrom, Row, rowIn, with, put}
+use Rattle.host.specs.Parts.{Part, sizes, arrays, place, hostBytes, numberAt, bytesOf, numbersFrom, Row, rowIn, with, put}
 use Rattle.host.specs.Rows.{undoAt}
 use Rattle.host.specs.Holding.{entry, arrayIn}
 use Rattle.host.proofs.Numbers.{one-byte}
@@ -35,6 +36,25 @@ module _ (p : Part) (i : ℕ) (h : List ℕ) (thin : width p ≡ 1) where
       let e : x % 256 ≡ x = omega arith in
       let b : bytesOf (width p) x ≡ x ∷ [] = ap (λ (w : ℕ). bytesOf w x) thin ∙ ap (λ (y : ℕ). y ∷ []) e in
       ap₂ (λ (k : ℕ) (vs : List ℕ). rowIn (sets h k vs)) (sym there) (sym b) ∙ write-part p i x h long l (subst (λ (w : ℕ). x < 256 ^ w) (sym thin) (omega arith))
+
+-- ---- bytes of several parts, one after the other
+
+-- what a row of bytes says
+pub record Says (h : List ℕ) (r : Row) : Type 0 where
+  pub long : length h ≡ hostBytes
+  pub same : rowIn h ≡ r
+
+pub says : (h : List ℕ) → length h ≡ hostBytes → Says h (rowIn h)
+says h long = record { long = long; same = refl }
+
+-- one more is written
+pub says-byte : {h : List ℕ} {r : Row} → Says h r → (p : Part) (i x : ℕ) → width p ≡ 1 → i < count p → x < 256 → Says (set h (place p .at + i) x) (put r p i x)
+says-byte {h} k p i x thin l m =
+    record { long = length-set h (place p .at + i) x ∙ k .long; same = byte-write p i h thin x (k .long) l m ∙ ap (λ (y : Row). put y p i x) (k .same) }
+
+-- .. but not beyond its part
+pub same-beyond : (h : List ℕ) {r : Row} → rowIn h ≡ r → (p : Part) (i x : ℕ) → count p ≤ i → rowIn h ≡ put r p i x
+same-beyond h e p i x l = write-beyond p i x h l ∙ ap (λ (y : Row). put y p i x) e
 
 -- ---- a loop that writes a part from a place on
 
@@ -137,27 +157,6 @@ zeros-at zero n j = refl
 zeros-at (suc m) zero j = refl
 zeros-at (suc m) (suc n) zero = refl
 zeros-at (suc m) (suc n) (suc j) = zeros-at m n j
-
--- ---- what a process sleeps with
-
-module _ (h : List ℕ) (i slot size mask : ℕ) where
-  abbrev called : Row
-  called = put (put (put (rowIn h) sleepsAt i slot) sizes i size) names i mask
-
-  pub call-there : length h ≡ hostBytes → i < processes → slot < 256 → size < 256 → mask < 256
-      → rowIn (set (set (set h (place sleepsAt .at + i) slot) (place sizes .at + i) size) (place names .at + i) mask) ≡ called
-  call-there long l a b c =
-      let g : List ℕ = set h (place sleepsAt .at + i) slot in
-      let k : List ℕ = set g (place sizes .at + i) size in
-      let lg : length g ≡ hostBytes = length-set h (place sleepsAt .at + i) slot ∙ long in
-      let lk : length k ≡ hostBytes = length-set g (place sizes .at + i) size ∙ lg in
-      byte-write names i k refl mask lk l c
-      ∙ ap (λ (r : Row). put r names i mask) (byte-write sizes i g refl size lg l b ∙ ap (λ (r : Row). put r sizes i size) (byte-write sleepsAt i h refl slot long l a))
-
-  pub call-none : processes ≤ i → rowIn h ≡ called
-  call-none l =
-      write-beyond names i mask h l
-      ∙ ap (λ (r : Row). put r names i mask) (write-beyond sizes i size h l ∙ ap (λ (r : Row). put r sizes i size) (write-beyond sleepsAt i slot h l))
 
 -- ---- where adjustments begin
 

@@ -7,9 +7,9 @@ use mathlib.Core.Logic.{⊎-elim}
 use mathlib.Core.List.{List, [], _∷_}
 use lib.ListN.{length, getD}
 use lib.Seq.{ext-getD}
-use Rattle.host.specs.Parts.{Part, generations, counts, readers, alterers, values, lasts, asleep, order, sleepsAt, sizes, names, arrays, Shape, table, hostBytes, numberAt, numbersFrom, Row, rowIn}
+use Rattle.host.specs.Parts.{part, Shape, table, Place, placeFrom, hostBytes, numberAt, numbersFrom, Row, rowIn}
 use Rattle.host.proofs.Numbers.{numbers-at}
-use Rattle.host.proofs.PartLaws.{less-or-not}
+use Rattle.host.proofs.PartLaws.{less-or-not, numbered}
 
 -- every element is a byte
 abbrev pub Bytes : List ℕ → Type 0
@@ -46,24 +46,21 @@ module _ (h h′ : List ℕ) (b : Bytes h) (b′ : Bytes h′) where
       some zero n l = absurd (omega (arith, l, zero-mul n))
       some (suc w) n l = omega arith
 
-  -- lists of shapes say all their bytes
-  abbrev Agree : ℕ → List Shape → Type 0
-  Agree a [] = Unit {0}
-  Agree a (s ∷ t) = (numbersFrom (s .width) a (s .count) h′ ≡ numbersFrom (s .width) a (s .count) h) × Agree (a + s .width * s .count) t
+  -- the same at one place of a list of shapes
+  abbrev Same : Place → Type 0
+  Same p = numbersFrom (p .shape .width) (p .at) (p .shape .count) h′ ≡ numbersFrom (p .shape .width) (p .at) (p .shape .count) h
 
-  shapes-say : (t : List Shape) (a : ℕ) → Agree a t → (j : ℕ) → a ≤ j → j < ending a t → getD h′ j 0 ≡ getD h j 0
+  -- lists of shapes say all their bytes
+  shapes-say : (t : List Shape) (a : ℕ) → ((n : ℕ) → n < length t → Same (placeFrom a t n)) → (j : ℕ) → a ≤ j → j < ending a t → getD h′ j 0 ≡ getD h j 0
   shapes-say [] a g j l m = absurd (omega arith)
   shapes-say (s ∷ t) a g j l m = ⊎-elim
-      (λ x. numbers-say (s .width) (s .count) a (g .0) j l x)
-      (λ y. shapes-say t (a + s .width * s .count) (g .1) j y m)
+      (λ x. numbers-say (s .width) (s .count) a (g 0 (omega arith)) j l x)
+      (λ y. shapes-say t (a + s .width * s .count) (λ n k. g (suc n) (omega arith)) j y m)
       (less-or-not j (a + s .width * s .count))
 
   pub whole : length h′ ≡ hostBytes → length h ≡ hostBytes → rowIn h′ ≡ rowIn h → h′ ≡ h
   unfolding rowIn
   whole n′ n e = ext-getD 0 h′ h (n′ ∙ sym n) (λ j l. shapes-say table 0 all j (omega arith) (omega arith))
     where
-      same : (p : Part) → rowIn h′ p ≡ rowIn h p
-      same p = ap (λ (r : Row). r p) e
-
-      all : Agree 0 table
-      all = (same generations, (same counts, (same readers, (same alterers, (same values, (same lasts, (same asleep, (same order, (same sleepsAt, (same sizes, (same names, (same arrays, tt))))))))))))
+      all : (n : ℕ) → n < length table → Same (placeFrom 0 table n)
+      all n l = subst (λ (m : ℕ). Same (placeFrom 0 table m)) (numbered n l) (ap (λ (r : Row). r (part n)) e)

@@ -43,20 +43,23 @@ theSlot s = s .slot
 abbrev pub theSize : Sleeper → ℕ
 theSize s = length (s .array)
 
--- a row with another queue
+-- a part by process, and the number of a sleeper that stands there
+pub record Kept : Type 0 where
+  pub part : Part
+  pub of : Sleeper → ℕ
+
+-- the slot, the bytes of the array, and the mask of the semaphores that the array names
+abbrev pub kept : List Kept
+kept = record { part = sleepsAt; of = theSlot } ∷ record { part = sizes; of = theSize } ∷ record { part = names; of = named } ∷ []
+
+-- a row with these numbers of a queue's sleepers
+abbrev pub withKept : List Kept → Row → List Sleeper → Row
+withKept [] r q = r
+withKept (k ∷ ks) r q = with (withKept ks r q) (k .part) (byProcess (k .of) processes 1 q)
+
+-- .. with another queue
 abbrev pub withQueue : Row → List Sleeper → Row
-withQueue r q generations = r generations
-withQueue r q counts = r counts
-withQueue r q readers = r readers
-withQueue r q alterers = r alterers
-withQueue r q values = r values
-withQueue r q lasts = r lasts
-withQueue r q asleep = length q ∷ []
-withQueue r q order = orderOf q
-withQueue r q sleepsAt = byProcess theSlot processes 1 q
-withQueue r q sizes = byProcess theSize processes 1 q
-withQueue r q names = byProcess named processes 1 q
-withQueue r q arrays = blocksFrom processes 1 q
+withQueue r q = with (with (with (withKept kept r q) asleep (length q ∷ [])) order (orderOf q)) arrays (blocksFrom processes 1 q)
 
 -- .. with other sets, and with other values and last processes
 abbrev pub withSets : Row → List Set → Row

@@ -1,7 +1,8 @@
 -- The host is one row of bytes. This is the table of its parts; src/parts.rt has its twin.
 use Prim.Native.Nat.{ℕ, zero, suc, _+_, _*_, _/_, _%_}
+use mathlib.Core.Path.{_≡_, refl}
 use mathlib.Core.Bool.{cond}
-use mathlib.Core.List.{List, [], _∷_}
+use mathlib.Core.List.{List, [], _∷_, _++_}
 use lib.Dec.{eqb}
 use lib.ListN.{getD, set}
 use Rattle.model.specs.Limits.{slots, processes, arrayBytes, allSemaphores}
@@ -25,20 +26,46 @@ pub data Part : Type 0 where
   -- the bytes of the arrays
   arrays : Part
 
--- the parts in their order
+-- the parts in their order: those of the sets, of the table, and of the queue
+abbrev pub ofSets : List Part
+ofSets = generations ∷ counts ∷ readers ∷ alterers ∷ []
+
+abbrev pub ofTable : List Part
+ofTable = values ∷ lasts ∷ []
+
+abbrev pub ofQueue : List Part
+ofQueue = asleep ∷ order ∷ sleepsAt ∷ sizes ∷ names ∷ arrays ∷ []
+
+abbrev pub parts : List Part
+parts = ofSets ++ ofTable ++ ofQueue
+
+-- a part's number: where it stands in that list
+abbrev pub part : ℕ → Part
+part n = getD parts n arrays
+
+pub record Listed (p : Part) : Type 0 where
+  pub number : ℕ
+  pub stands : part number ≡ p
+
+abbrev pub nth : (n : ℕ) → Listed (part n)
+nth n = record { number = n; stands = refl }
+
+abbrev pub listed : (p : Part) → Listed p
+listed generations = nth 0
+listed counts = nth 1
+listed readers = nth 2
+listed alterers = nth 3
+listed values = nth 4
+listed lasts = nth 5
+listed asleep = nth 6
+listed order = nth 7
+listed sleepsAt = nth 8
+listed sizes = nth 9
+listed names = nth 10
+listed arrays = nth 11
+
 abbrev pub number : Part → ℕ
-number generations = 0
-number counts = 1
-number readers = 2
-number alterers = 3
-number values = 4
-number lasts = 5
-number asleep = 6
-number order = 7
-number sleepsAt = 8
-number sizes = 9
-number names = 10
-number arrays = 11
+number p = listed p .number
 
 -- how many bytes a number of a part has, and how many numbers the part has
 pub record Shape : Type 0 where

@@ -13,7 +13,7 @@ use Rattle.model.specs.declared.Outcome.the-variants.{Done, Sleep, Again
 use Rattle.model.specs.declared.Copies.{Copies}
 use Rattle.model.specs.declared.Waking.{Waking}
 use Rattle.model.specs.Limits.{slots, semaphores, processes, valueMax, allSemaphores}
-use Rattle.model.specs.State.{Table, Sleeper, State, row, undoRow, freeSet, noSet}
+use Rattle.model.specs.State.{Table, withValues, withAdjustments, Sleeper, State, row, undoRow, freeSet, noSet}
 use Rattle.model.specs.Judge.{codeOf}
 use Rattle.model.specs.Look.{look, applied, valuesOf}
 use Rattle.model.specs.Marks.{mine, differing, maskOf}
@@ -101,7 +101,7 @@ clearNumber (suc n) slot number l = set (clearNumber n slot number l) (undoRow (
 -- "Set value also clears that semaphore's adjustments for all processes; last process stays."
 unfoldable pub assigned : Table → ℕ → ℕ → ℕ → Table
 assigned t slot number value =
-    record { values = set (t .values) (row slot + number) value; lasts = t .lasts; adjustments = clearNumber processes slot number (t .adjustments) }
+    withAdjustments (withValues t (set (t .values) (row slot + number) value)) (clearNumber processes slot number (t .adjustments))
 
 -- "cut to 0 to 32,767"
 unfoldable pub cut : ℕ → ℤ → ℕ
@@ -116,11 +116,9 @@ undoAll (v ∷ vs) (a ∷ js) = cut v a ∷ undoAll vs js
 -- "Exit adds each adjustment of that process to its semaphore, cut to 0 to 32,767, sets it to zero. Last process stays."
 unfoldable pub exited : Table → ℕ → Table
 exited t p =
-    record {
-      values = undoAll (t .values) (slice (undoRow p 0) (undoRow p 0 + allSemaphores) (t .adjustments));
-      lasts = t .lasts;
-      adjustments = paste (t .adjustments) (undoRow p 0) (replicate allSemaphores (pos 0)) allSemaphores;
-    }
+    let values = undoAll (t .values) (slice (undoRow p 0) (undoRow p 0 + allSemaphores) (t .adjustments)) in
+    let adjustments = paste (t .adjustments) (undoRow p 0) (replicate allSemaphores (pos 0)) allSemaphores in
+    withAdjustments (withValues t values) adjustments
 
 -- the sleepers that pass the test, in order
 unfoldable pub keep : (Sleeper → Bool) → List Sleeper → List Sleeper

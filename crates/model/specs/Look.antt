@@ -11,7 +11,7 @@ use Rattle.model.specs.declared.Outcome.the-variants.{Done, Sleep, Again
 use Rattle.model.specs.declared.Copies.{Copies}
 use Rattle.model.specs.declared.Judged.{Judged}
 use Rattle.model.specs.Limits.{semaphores}
-use Rattle.model.specs.State.{Table, Sleeper, row, undoRow}
+use Rattle.model.specs.State.{Table, withValues, withLasts, withAdjustments, Sleeper, row, undoRow}
 use Rattle.model.specs.Operation.{operationsOf, isZero}
 use Rattle.model.specs.Judge.{judge}
 
@@ -37,11 +37,10 @@ lastsAfter l slot process (o ∷ os) = lastsAfter (cond (isZero (o .amount)) l (
 -- "the copy becomes the state"
 unfoldable pub applied : Table → Sleeper → Copies → Table
 applied t s c =
-    record {
-      values = paste (t .values) (row (s .slot)) (c .values) semaphores;
-      lasts = lastsAfter (t .lasts) (s .slot) (s .process) (operationsOf (s .array));
-      adjustments = paste (t .adjustments) (undoRow (s .process) (s .slot)) (c .adjustments) semaphores;
-    }
+    let values = paste (t .values) (row (s .slot)) (c .values) semaphores in
+    let lasts = lastsAfter (t .lasts) (s .slot) (s .process) (operationsOf (s .array)) in
+    let adjustments = paste (t .adjustments) (undoRow (s .process) (s .slot)) (c .adjustments) semaphores in
+    withAdjustments (withLasts (withValues t values) lasts) adjustments
 
 -- the table after an array was judged: changed only if it is done
 unfoldable pub after : Table → Sleeper → Outcome → Copies → Table

@@ -12,6 +12,16 @@ pub record Table : Type 0 where
   pub lasts : List ℕ
   pub adjustments : List ℤ
 
+-- a table with other values, other last processes, or other adjustments: all else stays
+abbrev pub withValues : Table → List ℕ → Table
+withValues t values = record { values = values; lasts = t .lasts; adjustments = t .adjustments }
+
+abbrev pub withLasts : Table → List ℕ → Table
+withLasts t lasts = record { values = t .values; lasts = lasts; adjustments = t .adjustments }
+
+abbrev pub withAdjustments : Table → List ℤ → Table
+withAdjustments t adjustments = record { values = t .values; lasts = t .lasts; adjustments = adjustments }
+
 -- A sleeping call: its process, the slot of its set, and the bytes of its array as they came.
 pub record Sleeper : Type 0 where
   pub process : ℕ

@@ -16,7 +16,7 @@ use Rattle.model.proofs.CheckLaws.{create-passes, remove-passes}
 use Rattle.host.specs.Parts.{Row}
 use Rattle.host.specs.Holding.{Host, withQueue, withTable, hostOf, setAt, withSet, setsIn, queueIn, tableIn, stateIn, Held, arrayIn}
 use Rattle.host.specs.Queue.{Queued, Lined}
-use Rattle.host.proofs.PartLaws.{SetParts, setParts, queueParts, by-groups}
+use Rattle.host.proofs.PartLaws.{setParts, queueParts, by-groups}
 use Rattle.host.proofs.SetRows.{set-in}
 use Rattle.wakings.specs.Wakings.{listOf}
 use Rattle.service_table.specs.Written.{tabled}
@@ -31,20 +31,11 @@ map-set {B = B} f (y ∷ l) (suc i) x = ap (λ (r : List B). f y ∷ r) (map-set
 
 -- a set put into a slot of a host, another table, and another queue
 module _ (x : Host) (k : Held x) (slot : ℕ) (s : Set) (t : Table) (q : List Sleeper) where
-  -- the set is put into the four parts of the sets
-  abbrev put-into : SetParts → SetParts
-  put-into g =
-      record {
-        generations = set (g .generations) slot (s .generation);
-        counts = set (g .counts) slot (s .count);
-        readers = set (g .readers) slot (s .read);
-        alterers = set (g .alterers) slot (s .alter);
-      }
-
+  -- the set is put into the parts of the sets
   sets-put : setParts (withSet (x .row) slot s) ≡ setParts (hostOf (record { sets = set (setsIn (x .row)) slot s; table = t; queue = q }) .row)
   sets-put =
       let old : List Set = setsIn (x .row) in
-      ap (λ (y : Host). put-into (setParts (y .row))) (k .holds)
+      ap (λ (y : Host). setParts (withSet (y .row) slot s)) (k .holds)
       ∙ rw (map-set (λ (y : Set). y .generation) old slot s, map-set (λ (y : Set). y .count) old slot s, map-set (λ (y : Set). y .read) old slot s, map-set (λ (y : Set). y .alter) old slot s)
 
   pub set-host : record { row = withQueue (withTable (withSet (x .row) slot s) t) q; adjustments = t .adjustments } ≡ hostOf (record { sets = set (setsIn (x .row)) slot s; table = t; queue = q })

@@ -6,14 +6,13 @@ use lib.ListN.{length, getD, take, replicate}
 use lib.Seq.{sets}
 use Rattle.model.specs.Limits.{processes, arrayBytes}
 use Rattle.model.specs.State.{Sleeper, noSleeper}
-use Rattle.model.specs.Marks.{named}
 use Rattle.model.specs.Waking.{without}
 use Rattle.host.specs.Parts.{Part, asleep, order, sleepsAt, sizes, arrays, Row, with, put}
-use Rattle.host.specs.Holding.{withQueue, entry, withCall, queueIn}
+use Rattle.host.specs.Holding.{Kept, kept, withQueue, entry, queueIn}
 use Rattle.host.specs.Queue.{Room, Queued, Lined}
 use Rattle.host.proofs.PartLaws.{by-groups}
 use Rattle.host.proofs.ProcessLaws.{Awake}
-use Rattle.host.proofs.QueueRows.{order-at, slot-read, size-read, emptied, taken, joinedBy, joined, queue-back}
+use Rattle.host.proofs.QueueRows.{order-at, slot-read, size-read, withEntry, emptied, taken, joinedBy, joined, queue-back}
 use Rattle.service_queue.specs.Seated.{movedUp}
 use Rattle.service_queue.proofs.MovingLaws.{order-moved}
 
@@ -22,7 +21,7 @@ use Rattle.service_queue.proofs.MovingLaws.{order-moved}
 pub queue-again : (r : Row) (p q : List Sleeper) → withQueue (withQueue r p) q ≡ withQueue r q
 queue-again r p q = by-groups _ _ refl refl refl
 
-module _ {r r′ : Row} {q : List Sleeper} (e : r′ ≡ withQueue r q) (f : Queued q) where
+module _ (r : Row) {r′ : Row} {q : List Sleeper} (e : r′ ≡ withQueue r q) (f : Queued q) where
   -- the row shows it
   pub shows : queueIn r′ ≡ q
   shows = ap queueIn e ∙ queue-back r q f
@@ -60,15 +59,15 @@ module _ {r : Row} (k : Lined r) where
 -- ---- one is taken out: what its process has is cleared, and the order moves up
 
 abbrev clearedOf : ℕ → ℕ → Row → Row
-clearedOf p size r = withCall (with r arrays (sets (r arrays) (arrayBytes * entry p) (take arrayBytes (replicate size 0)))) p 0 0 0
+clearedOf p size r = withEntry kept p (λ (k : Kept). 0) (with r arrays (sets (r arrays) (arrayBytes * entry p) (take arrayBytes (replicate size 0))))
 
 abbrev shortened : ℕ → ℕ → Row → Row
 shortened at last r = put (with r order (movedUp (r order) at last)) asleep 0 last
 
 module _ {r r₁ r₂ : Row} {p size : ℕ} (k : Lined r) (at : ℕ) (h : at < length (queueIn r)) (ep : p ≡ getD (r order) at 0) (es : size ≡ getD (r sizes) (entry p) 0)
-    (e₁ : r₁ ≡ with r arrays (sets (r arrays) (arrayBytes * entry p) (take arrayBytes (replicate size 0)))) (e₂ : r₂ ≡ withCall r₁ p 0 0 0) where
+    (e₁ : r₁ ≡ with r arrays (sets (r arrays) (arrayBytes * entry p) (take arrayBytes (replicate size 0)))) (e₂ : r₂ ≡ withEntry kept p (λ (k : Kept). 0) r₁) where
   cleared : r₂ ≡ clearedOf p size r
-  cleared = e₂ ∙ ap (λ (x : Row). withCall x p 0 0 0) e₁
+  cleared = e₂ ∙ ap (withEntry kept p (λ (k : Kept). 0)) e₁
 
   pub still-asleep : getD (r₂ asleep) 0 0 ≡ length (queueIn r)
   still-asleep = ap (λ (x : Row). getD (x asleep) 0 0) cleared ∙ asleep-is k
@@ -93,11 +92,11 @@ module _ {r r₁ r₂ : Row} {p size : ℕ} (k : Lined r) (at : ℕ) (h : at < l
 
 -- ---- one joins
 
-module _ {r r₁ r₂ : Row} (k : Lined r) (s : Sleeper) (room : Room s) (a : Awake (s .process) (queueIn r)) (h : length (queueIn r) < processes)
-    (e₁ : r₁ ≡ with r arrays (sets (r arrays) (arrayBytes * entry (s .process)) (take arrayBytes (s .array)))) {mask : ℕ} (em : mask ≡ named s)
-    (e₂ : r₂ ≡ withCall r₁ (s .process) (s .slot) (length (s .array)) mask) where
-  stored : r₂ ≡ withCall (with r arrays (sets (r arrays) (arrayBytes * entry (s .process)) (take arrayBytes (s .array)))) (s .process) (s .slot) (length (s .array)) (named s)
-  stored = e₂ ∙ ap₂ (λ (x : Row) (m : ℕ). withCall x (s .process) (s .slot) (length (s .array)) m) e₁ em
+module _ {r r₁ r₂ : Row} {s : Sleeper} (k : Lined r) (room : Room s) (a : Awake (s .process) (queueIn r)) (h : length (queueIn r) < processes)
+    (e₁ : r₁ ≡ with r arrays (sets (r arrays) (arrayBytes * entry (s .process)) (take arrayBytes (s .array))))
+    (e₂ : r₂ ≡ withEntry kept (s .process) (λ (k : Kept). k .of s) r₁) where
+  stored : r₂ ≡ withEntry kept (s .process) (λ (k : Kept). k .of s) (with r arrays (sets (r arrays) (arrayBytes * entry (s .process)) (take arrayBytes (s .array))))
+  stored = e₂ ∙ ap (withEntry kept (s .process) (λ (k : Kept). k .of s)) e₁
 
   pub before-it : getD (r₂ asleep) 0 0 ≡ length (queueIn r)
   before-it = ap (λ (x : Row). getD (x asleep) 0 0) stored ∙ asleep-is k

@@ -138,7 +138,7 @@ module _ {slot : ℕ} {r₀ r : Row} {wakings : List Waking} {woken i : ℕ} (v 
       fits = queued-without (queueIn r) i h (v .lined .fits)
 
       now : queueIn r′ ≡ without (queueIn r) i
-      now = shows er fits
+      now = shows r er fits
 
       pub one-less : length (queueIn r′) + 1 ≡ length (queueIn r)
       one-less = ap (λ (q : List Sleeper). length q + 1) now ∙ length-without (queueIn r) i h
@@ -151,7 +151,7 @@ module _ {slot : ℕ} {r₀ r : Row} {wakings : List Waking} {woken i : ℕ} (v 
           let m : mine slot s ≡ true = eq-eqb (s .slot) slot (sym slot-there ∙ e) in
           let here : waking p (pos 43) ≡ w = ap (λ (n : ℕ). waking n (pos 43)) (ep ∙ process-is (v .lined) i h) in
           record {
-            lined = lined-with er fits;
+            lined = lined-with r er fits;
             same = er ∙ ap (λ (x : Row). withQueue x (without (queueIn r) i)) (v .same) ∙ queue-again r₀ (queueIn r) (without (queueIn r) i) ∙ ap (withQueue r₀) (sym now);
             ended = v .ended ++ w ∷ [];
             listed = ew ∙ ap₂ (λ (l : List Waking) (k : ℕ). set l k (waking p (pos 43))) (v .listed) (v .count) ∙ ap (λ (x : Waking). set (listOf (v .ended)) (length (v .ended)) x) here ∙ noted (v .ended) (s .process) (pos 43) (omega (arith, v .ending .room));

@@ -8,7 +8,7 @@ use lib.IntN.{ℤ, pos}
 use lib.ListN.{length, getD, set, take, drop, replicate, drop-of-length-le}
 use lib.Seq.{slice, paste, paste-zero, take-all, take-take, take-paste}
 use Rattle.model.specs.Limits.{slots, semaphores, allSemaphores, allAdjustments}
-use Rattle.model.specs.State.{Table, row, undoRow}
+use Rattle.model.specs.State.{Table, withValues, withAdjustments, row, undoRow}
 use Rattle.model.specs.Look.{valuesOf, adjustmentsOf}
 use Rattle.model.specs.Marks.{differing}
 use Rattle.model.specs.Events.{undoAll, exited, touchedFrom}
@@ -37,16 +37,11 @@ module _ (t : Table) (p : ℕ) where
 
   -- the table once the first k slots are done
   abbrev pub exitedTo : ℕ → Table
-  exitedTo k =
-      record {
-        values = paste (t .values) 0 sums (row k);
-        lasts = t .lasts;
-        adjustments = paste (t .adjustments) start zeros (row k);
-      }
+  exitedTo k = withAdjustments (withValues t (paste (t .values) 0 sums (row k))) (paste (t .adjustments) start zeros (row k))
 
   pub exited-none : t ≡ exitedTo 0
   exited-none =
-      ap₂ (λ (v : List ℕ) (a : List ℤ). record { values = v; lasts = t .lasts; adjustments = a })
+      ap₂ (λ (v : List ℕ) (a : List ℤ). withAdjustments (withValues t v) a)
       (paste-zero (t .values) 0 sums) (paste-zero (t .adjustments) start zeros)
 
   module _ (hp : IsProcess p) (lv : length (t .values) ≡ allSemaphores) (la : length (t .adjustments) ≡ allAdjustments) where
@@ -59,7 +54,7 @@ module _ (t : Table) (p : ℕ) where
     pub exited-all : exitedTo slots ≡ exited t p
     unfolding exited
     exited-all =
-        ap (λ (v : List ℕ). record { values = v; lasts = t .lasts; adjustments = paste (t .adjustments) start zeros allSemaphores })
+        ap (λ (v : List ℕ). withAdjustments (withValues t v) (paste (t .adjustments) start zeros allSemaphores))
         (rw (take-all allSemaphores sums (omega (arith, long)), drop-of-length-le (t .values) {i = allSemaphores} (omega arith)) (append-nil sums))
 
     module _ (k : ℕ) (l : k < slots) where
@@ -86,7 +81,7 @@ module _ (t : Table) (p : ℕ) where
       unfolding exitedAt
       exited-more =
           let s = ap₂ undoAll same-values same-undo ∙ part in
-          ap₂ (λ (v : List ℕ) (a : List ℤ). record { values = v; lasts = t .lasts; adjustments = a })
+          ap₂ (λ (v : List ℕ) (a : List ℤ). withAdjustments (withValues t v) a)
           (paste-behind (t .values) 0 sums (row k) (omega arith) (omega (arith, long)) semaphores (row k) (omega arith) (undoAll (valuesOf (exitedTo k) k) (adjustmentsOf (exitedTo k) p k)) (row (k + 1)) (omega arith) (ap (λ (r : List ℕ). take semaphores r) s ∙ take-take semaphores semaphores (drop (row k) sums) (omega arith)))
           (paste-behind (t .adjustments) start zeros (row k) (omega (arith, room)) (omega arith) semaphores (undoRow p k) (omega arith) (replicate semaphores (pos 0)) (row (k + 1)) (omega arith) (same-part (pos 0) allSemaphores (row k) semaphores (omega arith)))
 

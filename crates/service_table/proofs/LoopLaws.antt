@@ -18,8 +18,8 @@ use Rattle.model.specs.Marks.{differing}
 use Rattle.model.specs.Events.{clearRows, clearNumber}
 use Rattle.host.specs.Rows.{undoAt}
 use Rattle.host.proofs.RowLaws.{sets-paste}
+use Rattle.host.proofs.SleeperLaws.{undo-at}
 use Rattle.service_table.specs.Numbered.{IsSlot}
-use Rattle.service_table.proofs.WrittenLaws.{undo-at}
 
 -- `1u8 << i`
 pub bit-of : (i : ℕ) → i < 8 → 1 * 2 ^ i % 256 ≡ 2 ^ i

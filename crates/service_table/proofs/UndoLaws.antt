@@ -10,7 +10,7 @@ use lib.ListN.{length, getD, take, drop, replicate}
 use lib.Seq.{sets, paste, take-all, length-slice, length-paste}
 use borrow.Author.Tests.{eq-eqb, le-ltb}
 use Rattle.model.specs.Limits.{slots, semaphores, valueMax, allSemaphores, allAdjustments}
-use Rattle.model.specs.State.{Table, row, undoRow}
+use Rattle.model.specs.State.{Table, withValues, withAdjustments, row, undoRow}
 use Rattle.model.specs.Look.{valuesOf, adjustmentsOf}
 use Rattle.model.specs.Marks.{differing}
 use Rattle.model.specs.Events.{cut, undoAll}
@@ -18,16 +18,17 @@ use Rattle.model.specs.Runs.{none, also}
 use Rattle.model.specs.Invariant.{Good}
 use Rattle.model.proofs.Lists.{first, rest, all-slice, all-paste, all-replicate}
 use Rattle.model.proofs.TableLaws.{cut-small}
-use Rattle.host.specs.Parts.{values, lasts, Row, rowIn, with}
+use Rattle.host.specs.Parts.{values, Row, rowIn, with}
 use Rattle.host.specs.Rows.{from, undoAt}
 use Rattle.host.specs.Holding.{Host, tableIn, hostIn}
-use Rattle.host.proofs.PartLaws.{with-same, length-part}
+use Rattle.host.proofs.PartLaws.{by-parts, length-part}
 use Rattle.host.proofs.RowLaws.{from-slice, sets-paste, Reading, read-all}
+use Rattle.host.proofs.SleeperLaws.{undo-at}
 use Rattle.service_table.specs.Numbered.{IsSlot, IsProcess, AreValues}
 use Rattle.service_table.specs.Written.{tabled, exitedAt, allZero}
 use Rattle.service_table.proofs.Lists.{slice-pasted, paste-same}
 use Rattle.service_table.proofs.ZeroLaws.{all-zeros}
-use Rattle.service_table.proofs.WrittenLaws.{hostAs, undo-at, tabled-same}
+use Rattle.service_table.proofs.WrittenLaws.{hostAs, tabled-same}
 
 -- ---- values and adjustments, one by one
 
@@ -117,7 +118,7 @@ module _ (t : Table) (p slot : ℕ) (hp : IsProcess p) (hs : IsSlot slot) (value
   exited-nothing small e =
       let v : undoAll (valuesOf t slot) (adjustmentsOf t p slot) ≡ valuesOf t slot =
       ap (λ (us : List ℤ). undoAll (valuesOf t slot) us) e ∙ undone-zeros semaphores (valuesOf t slot) (all-slice (row slot) (row slot + semaphores) (t .values) small) in
-      ap₂ (λ (vs : List ℕ) (us : List ℤ). record { values = vs; lasts = t .lasts; adjustments = us })
+      ap₂ (λ (vs : List ℕ) (us : List ℤ). withAdjustments (withValues t vs) us)
       (ap (λ (vs : List ℕ). paste (t .values) (row slot) vs semaphores) v ∙ paste-same (t .values) (row slot) semaphores hv)
       (ap (λ (us : List ℤ). paste (t .adjustments) (undoRow p slot) us semaphores) (sym e) ∙ paste-same (t .adjustments) (undoRow p slot) semaphores ha)
 
@@ -184,7 +185,7 @@ module _ (h : List ℕ) (a : List ℤ) (p slot : ℕ) (hp : IsProcess p) (hs : I
         let v = sets-paste after (rowIn h values) (row slot) semaphores l (hv t p slot hp hs lv la) ∙ ap (λ (vs : List ℕ). paste (rowIn h values) (row slot) vs semaphores) same in
         let u = sets-paste (replicate semaphores (pos 0)) a (undoRow p slot) semaphores refl (ha t p slot hp hs lv la) in (
           ap₂ hostAs
-              (er ∙ ap (λ (vs : List ℕ). with (rowIn h) values vs) v ∙ with-same (with (rowIn h) values (exitedAt t p slot .values)) lasts)
+              (er ∙ ap (λ (vs : List ℕ). with (rowIn h) values vs) v ∙ by-parts _ _ refl)
               (eu ∙ rw (undo-at p slot (hp .least) (hp .most) hs) u),
           em ∙ ap₂ (λ (x y : List ℕ). differing 0 0 x y) (eb ∙ values-read) (same ∙ sym (exited-values t p slot hp hs lv la)),
         )

@@ -7,7 +7,7 @@ use lib.ListN.{replicate}
 use lib.Seq.{sets, paste}
 use Rattle.model.specs.declared.Copies.{Copies}
 use Rattle.model.specs.Limits.{semaphores}
-use Rattle.model.specs.State.{Table, row, undoRow}
+use Rattle.model.specs.State.{Table, withValues, withAdjustments, row, undoRow}
 use Rattle.model.specs.Operation.{isZero}
 use Rattle.model.specs.Look.{valuesOf, adjustmentsOf}
 use Rattle.model.specs.Events.{undoAll}
@@ -30,11 +30,9 @@ written x process slot mask copies =
 -- a process's adjustments for one slot are added to its values, cut, and put to 0
 unfoldable pub exitedAt : Table → ℕ → ℕ → Table
 exitedAt t p slot =
-    record {
-      values = paste (t .values) (row slot) (undoAll (valuesOf t slot) (adjustmentsOf t p slot)) semaphores;
-      lasts = t .lasts;
-      adjustments = paste (t .adjustments) (undoRow p slot) (replicate semaphores (pos 0)) semaphores;
-    }
+    let values = paste (t .values) (row slot) (undoAll (valuesOf t slot) (adjustmentsOf t p slot)) semaphores in
+    let adjustments = paste (t .adjustments) (undoRow p slot) (replicate semaphores (pos 0)) semaphores in
+    withAdjustments (withValues t values) adjustments
 
 -- are all adjustments zero?
 unfoldable pub allZero : List ℤ → Bool

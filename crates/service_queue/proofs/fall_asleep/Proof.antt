@@ -4,8 +4,7 @@ use mathlib.Core.Path.{_≡_, _∙_}
 use borrow.Author.Needs.{needs}
 use lib.ListN.{length}
 use Rattle.model.specs.Operation.{operationsOf}
-use Rattle.model.specs.State.{Sleeper}
-use Rattle.model.specs.Marks.{named}
+use Rattle.model.specs.Marks.{namedBy}
 use Rattle.judging.proofs.NamedLaws.{named-within}
 use Rattle.host.specs.Parts.{rowIn}
 use Rattle.host.specs.Holding.{queueIn}
@@ -34,18 +33,15 @@ asleep-of-requires c κs = search needs
 put-process-requires : tie.Need-put-process-requires
 put-process-requires c κs = search needs
 
--- the call, its mask, and how many sleep before it
-abbrev sleeper : tie.Start → Sleeper
-sleeper s = record { process = s .args .process; slot = s .args .slot; array = s .args .bytes .now }
-
-mask-is : (c : tie.After-names-of) → c .names-of .result ≡ named (sleeper (c .before .before .before .before .before))
+-- the mask of the call, and how many sleep before it
+mask-is : (c : tie.After-names-of) → c .names-of .result ≡ namedBy 0 (operationsOf (c .before .before .before .before .before .args .bytes .now))
 mask-is c = let s = c .before .before .before .before .before in c .names-of .ensures ∙ named-within 0 (operationsOf (s .args .bytes .now)) (s .pre .1 .1 .1 .1 .1)
 
 count-is : (c : tie.After-asleep-of) → c .asleep-of .result ≡ length (queueIn (rowIn (c .before .before .before .before .before .before .before .before .args .host .now)))
 count-is c =
     let s = c .before .before .before .before .before .before .before .before in
     c .asleep-of .ensures
-    ∙ before-it (s .pre .0) (sleeper s) (s .pre .1 .0) (s .pre .1 .1 .0) (s .pre .1 .1 .1 .0) (c .before .before .before .before .before .store-array .ensures) (mask-is (c .before .before .before)) (c .before .before .put-call .ensures)
+    ∙ before-it (s .pre .0) (s .pre .1 .0) (s .pre .1 .1 .0) (s .pre .1 .1 .1 .0) (c .before .before .before .before .before .store-array .ensures) (rw (mask-is (c .before .before .before)) at (c .before .before .put-call .ensures))
 
 cast-put-asleep : tie.Need-cast-put-asleep
 cast-put-asleep c = omega (arith, count-is (c .before .before .before), c .before .before .before .before .before .before .before .before .before .before .before .pre .1 .1 .1 .0)
@@ -59,7 +55,7 @@ put-asleep-requires c κs = search needs
 returns : tie.Need-returns
 returns c =
     let s = c .before .before .before .before .before .before .before .before .before .before .before .before in
-    joined-behind (s .pre .0) (sleeper s) (s .pre .1 .0) (s .pre .1 .1 .0) (s .pre .1 .1 .1 .0) (c .before .before .before .before .before .before .before .before .before .store-array .ensures) (mask-is (c .before .before .before .before .before .before .before)) (c .before .before .before .before .before .before .put-call .ensures)
+    joined-behind (s .pre .0) (s .pre .1 .0) (s .pre .1 .1 .0) (s .pre .1 .1 .1 .0) (c .before .before .before .before .before .before .before .before .before .store-array .ensures) (rw (mask-is (c .before .before .before .before .before .before .before)) at (c .before .before .before .before .before .before .put-call .ensures))
     (c .before .before .before .before .asleep-of .ensures) (c .before .before .put-process .ensures) (c .put-asleep .ensures)
 
 pub fall-asleep-spec : {M : Type 1} → statement M

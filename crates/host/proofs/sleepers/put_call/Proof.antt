@@ -1,6 +1,9 @@
 use lib.ListN.{length-set}
 use native.Mathlib.Omega.{arith}
-use Rattle.host.proofs.SleeperLaws.{call-there, call-none}
+use mathlib.Core.Path.{refl}
+use Rattle.host.specs.Parts.{sleepsAt, sizes, names}
+use Rattle.host.proofs.PartLaws.{write-beyond}
+use Rattle.host.proofs.SleeperLaws.{says, says-byte, same-beyond}
 use borrow.Author.Needs.{needs}
 use Rattle.host.proofs.sleepers.put_call.Statement.{statement}
 use Rattle.host.proofs.sleepers.put_call.Tie as tie
@@ -30,13 +33,22 @@ returns : tie.Need-returns
 returns c =
     let e = c .before .entry-of in
     let a = c .before .before .before .args in
-    rw (← e .ensures) (call-there (a .host .now) (e .result) (a .slot) (a .size) (a .names) (search needs) (c .if1 .taken) (search needs) (search needs) (search needs))
+    let i = e .result in
+    let l = c .if1 .taken in
+    let s₀ = says (a .host .now) (search needs) in
+    let s₁ = says-byte s₀ sleepsAt i (a .slot) refl l (search needs) in
+    let s₂ = says-byte s₁ sizes i (a .size) refl l (search needs) in
+    rw (← e .ensures) (says-byte s₂ names i (a .names) refl l (search needs) .same)
 
 returns-2 : tie.Need-returns-2
 returns-2 c =
     let e = c .before .entry-of in
     let a = c .before .before .before .args in
-    rw (← e .ensures) (call-none (a .host .now) (e .result) (a .slot) (a .size) (a .names) (c .if1 .left))
+    let i = e .result in
+    let l = c .if1 .left in
+    let e₁ = write-beyond sleepsAt i (a .slot) (a .host .now) l in
+    let e₂ = same-beyond (a .host .now) e₁ sizes i (a .size) l in
+    rw (← e .ensures) (same-beyond (a .host .now) e₂ names i (a .names) l)
 
 pub put-call-spec : {M : Type 1} → statement M
 put-call-spec =
