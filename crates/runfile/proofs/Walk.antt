@@ -12,7 +12,7 @@ use borrow.Author.Tests.{ltb-false, eqb-true, eqb-false}
 use Rattle.model.specs.declared.Event as declared
 use Rattle.model.specs.Limits.{operationBytes}
 use Rattle.model.specs.Events.{Event}
-use Rattle.model.specs.Handed.{eventOf}
+use Rattle.model.specs.Events.{eventOf}
 use Rattle.runfile.specs.Fields.{byteAt}
 use Rattle.runfile.specs.Kinds.{createKind, operateKind, operateBytes, setValueKind, removeKind, signalKind, exitKind, queryKind}
 use Rattle.runfile.specs.Table.{fileMax, headBytes, entryBytes, countOf, Entry, entryAt, entriesFrom, tableOf, tableEnd, chains}

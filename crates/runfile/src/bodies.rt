@@ -5,7 +5,7 @@
 // specs/Body.antt, and it is an event of the crate model.
 ghost use mathlib.Core.Path.{_≡_};
 ghost use lib.IntN.{pos};
-ghost use Rattle.model.specs.Handed.{eventOf};
+ghost use Rattle.model.specs.Events.{eventOf};
 ghost use Rattle.runfile.specs.Body.{numberAt, sizeAt, bodyCode, eventAt, handedAt, bytesOf};
 use crate::fields::behind;
 use crate::fields::byte_at;

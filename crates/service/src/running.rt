@@ -2,7 +2,7 @@
 ghost use mathlib.Core.Path.{_≡_};
 ghost use Rattle.model.specs.Waking.{waker};
 ghost use Rattle.model.specs.Events.{event as eventIn};
-ghost use Rattle.model.specs.Handed.{eventOf};
+ghost use Rattle.model.specs.Events.{eventOf};
 ghost use Rattle.host.specs.Holding.{Held, hostIn, stateIn};
 ghost use Rattle.service.specs.After.{repliedIn, repliedOf};
 use crate::events::create::create;
