@@ -1,4 +1,4 @@
--- `service::running::run` meets its contract.
+-- `service::run` meets its contract.
 use mathlib.Core.Path.{ap}
 use mir.Syntax.{w32}
 use mir.Facts.{toZ-ofZ}
@@ -6,8 +6,8 @@ use Rattle.model.specs.Events.{event}
 use Rattle.host.specs.Holding.{hostIn}
 use Rattle.service.proofs.RunningLaws.{replied, seen}
 use borrow.Author.Needs.{needs}
-use Rattle.service.proofs.running.run.Statement.{statement}
-use Rattle.service.proofs.running.run.Tie as tie
+use Rattle.service.proofs.run.Statement.{statement}
+use Rattle.service.proofs.run.Tie as tie
 
 enum-known-event : tie.Need-enum-known-event
 enum-known-event c = search needs
