@@ -41,24 +41,17 @@ pub fn run(
 {
     match event {
         Event::Create { count, read, alter } => {
-            let told = create(host, adjustments, list, count, read, alter);
-            Reply::Told(told)
+            Reply::Told(create(host, adjustments, list, count, read, alter))
         }
         Event::Operate {
             process,
             identifier,
-        } => {
-            let told = operate(host, adjustments, list, engine, process, identifier, bytes);
-            Reply::Told(told)
-        }
+        } => Reply::Told(operate(host, adjustments, list, engine, process, identifier, bytes)),
         Event::SetValue {
             identifier,
             number,
             value,
-        } => {
-            let told = set_value(host, adjustments, list, engine, identifier, number, value);
-            Reply::Told(told)
-        }
+        } => Reply::Told(set_value(host, adjustments, list, engine, identifier, number, value)),
         Event::Remove { identifier } => Reply::Told(remove(host, adjustments, list, identifier)),
         Event::Signal { process } => Reply::Told(signal(host, adjustments, list, process)),
         Event::Exit { process } => Reply::Told(exit(host, adjustments, list, engine, process)),
