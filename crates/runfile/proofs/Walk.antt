@@ -7,21 +7,16 @@ use mathlib.Core.List.{List, [], _∷_}
 use native.Mathlib.Omega.{arith}
 use lib.Dec.{eqb}
 use lib.ListN.{length}
-use borrow.Author.Tests.{ltb-false, eqb-true, eqb-false}
+use borrow.Author.Tests.{ltb-false, eqb-true}
 use Rattle.model.specs.Events.{Event}
 use Rattle.runfile.specs.Table.{fileMax, headBytes, entryBytes, countOf, Entry, entryAt, entriesFrom, tableOf, tableEnd, chains}
 use Rattle.runfile.specs.Body.{sizeAt, eventAt, bodyCode, nextAt, eventsFrom}
 use Rattle.runfile.specs.File.{File, bad, good, before, eventsOf, fileOf, codeOf, codeOfFile}
 
--- a body of a known kind that lies within the file
-pub record Body (file : List ℕ) (at : ℕ) : Type 0 where
-  pub known : 0 < sizeAt file at
-  pub inside : nextAt file at ≤ length file
-
 -- so many bodies from a position on, the last of which ends the file
 pub data Bodies (file : List ℕ) : ℕ → ℕ → Type 0 where
   end : {at : ℕ} → at ≡ length file → Bodies file at zero
-  next : {at n : ℕ} → Body file at → Bodies file (nextAt file at) n → Bodies file at (suc n)
+  next : {at n : ℕ} → Bodies file (nextAt file at) n → Bodies file at (suc n)
 
 -- ---- what the code 0 tells
 
@@ -81,22 +76,16 @@ both false b h = (h, refl-of h)
     refl-of : false ≡ true → b ≡ true
     refl-of z = let o : _≡_ {A = ℕ} 0 1 = cc in no-code 0 (sym o)
 
-fine : (empty unknown right : Bool) → _≡_ {A = ℕ} (cond empty 204 (cond unknown 203 (cond right 0 204))) 0 → (unknown ≡ false) × (right ≡ true)
+fine : (empty unknown right : Bool) → _≡_ {A = ℕ} (cond empty 204 (cond unknown 203 (cond right 0 204))) 0 → right ≡ true
 fine true unknown right h = no-code 203 h
 fine false true right h = no-code 202 h
-fine false false true h = (refl, refl)
+fine false false true h = refl
 fine false false false h = no-code 203 h
 
--- a body whose code is 0 has a known kind, and its length is the one due
-body-fine : (file : List ℕ) (at size : ℕ) → bodyCode file at size ≡ 0 → (0 < sizeAt file at) × (size ≡ sizeAt file at)
+-- the length of a body whose code is 0 is the one due
+body-fine : (file : List ℕ) (at size : ℕ) → bodyCode file at size ≡ 0 → size ≡ sizeAt file at
 unfolding bodyCode
-body-fine file at size h =
-    let f = fine (eqb size 0) _ _ h in
-    (some (sizeAt file at) (eqb-false _ _ (f .0)), eqb-true _ _ (f .1))
-  where
-    some : (n : ℕ) → (n ≡ 0 → ⊥) → 0 < n
-    some zero h = absurd (h refl)
-    some (suc n) h = omega arith
+body-fine file at size h = eqb-true size _ (fine (eqb size 0) (eqb (sizeAt file at) 0) (eqb size (sizeAt file at)) h)
 
 first-fine : (code : ℕ) (e : Event) (rest : File) → codeOf (before code e rest) ≡ 0 → (code ≡ 0) × (codeOf rest ≡ 0)
 unfolding codeOf
@@ -106,7 +95,7 @@ first-fine (suc code) e rest h = no-code code h
 
 pub within : {file : List ℕ} {at n : ℕ} → Bodies file at n → at ≤ length file
 within (end e) = omega arith
-within (next b bs) = omega (arith, within bs)
+within (next bs) = omega (arith, within bs)
 
 record Walked (file : List ℕ) (es : List Entry) (at n : ℕ) : Type 0 where
   events : eventsOf file es ≡ good (eventsFrom file at n)
@@ -122,10 +111,10 @@ walked file (suc n) from at h k =
     let f = first-fine _ _ _ k in
     let o : e .offset ≡ at = eqb-true _ _ (c .0) in
     let b = rw o at (body-fine file (e .offset) (e .size) (f .0)) in
-    let w = walked file n (from + entryBytes) (nextAt file at) (rw (b .1) at (c .1)) (f .1) in
+    let w = walked file n (from + entryBytes) (nextAt file at) (rw b at (c .1)) (f .1) in
     record {
       events = rw (f .0, o, w .events);
-      bodies = next (record { known = b .0; inside = within (w .bodies) }) (w .bodies);
+      bodies = next (w .bodies);
     }
 
 -- ---- a good file
@@ -150,18 +139,14 @@ bad-code file h = by (fileOf file) h
     by (bad code) h = refl
     by (good es) h = absurd (h refl)
 
--- ---- a turn of the walk, with k of n bodies passed
+-- ---- a turn of the walk, with n bodies left
 
-left : (n k : ℕ) → k < n → n - k ≡ suc (n - (k + 1))
-left n k h = omega arith
-
-module _ (file : List ℕ) (at n k : ℕ) (h : k < n) where
-  pub events-turn : eventsFrom file at (n - k) ≡ eventAt file at ∷ eventsFrom file (nextAt file at) (n - (k + 1))
+module _ (file : List ℕ) (at : ℕ) where
+  pub events-turn : (n : ℕ) → 0 < n → eventsFrom file at n ≡ eventAt file at ∷ eventsFrom file (nextAt file at) (n - 1)
   unfolding eventsFrom
-  events-turn = rw (left n k h)
+  events-turn zero h = absurd (omega arith)
+  events-turn (suc n) h = let e : suc n - 1 ≡ n = omega arith in rw e
 
-  here : (m : ℕ) → Bodies file at (suc m) → Body file at × Bodies file (nextAt file at) m
-  here m (next b bs) = (b, bs)
-
-  pub body-turn : Bodies file at (n - k) → Body file at × Bodies file (nextAt file at) (n - (k + 1))
-  body-turn bs = here (n - (k + 1)) (rw (left n k h) at bs)
+  pub bodies-turn : (n : ℕ) → 0 < n → Bodies file at n → Bodies file (nextAt file at) (n - 1)
+  bodies-turn zero h bs = absurd (omega arith)
+  bodies-turn (suc n) h (next bs) = let e : suc n - 1 ≡ n = omega arith in rw e bs

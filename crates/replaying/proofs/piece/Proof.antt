@@ -9,11 +9,10 @@ use borrow.Author.Needs.{needs}
 use Rattle.model.specs.Events.{eventOf}
 use Rattle.host.specs.Holding.{Held, hostIn}
 use Rattle.runfile.specs.Body.{nextAt}
-use Rattle.runfile.proofs.Walk.{Body}
 use Rattle.lines.specs.Buffer.{hasRoom}
 use Rattle.lines.proofs.Writing.{room-yes, room-no}
 use Rattle.replaying.specs.Replay.{Stage}
-use Rattle.replaying.proofs.Turns.{stage, ready, next-body}
+use Rattle.replaying.proofs.Turns.{stage, ready, next-inside}
 use Rattle.replaying.proofs.Replies.{Turned, turned}
 use Rattle.replaying.proofs.Going.{Going, begins, goes-on, ends-over, ends-full}
 use Rattle.replaying.proofs.piece.Statement.{statement}
@@ -26,7 +25,7 @@ Inv-loop host₀ adjustments₀ engine file out₀ wakings₀ position₀ left�
 abbrev μ-loop : tie.MeasureT-loop
 μ-loop host₀ adjustments₀ engine file out₀ wakings₀ position₀ left₀ at₀ next₀ host adjustments out wakings position left at next = left
 
--- ---- in a turn: the file, the stage, the body at the next position, and room for what is read and written
+-- ---- in a turn: the file, the stage, and room for what is read and written
 
 abbrev In : Type 0
 In = tie.In-loop Inv-loop μ-loop
@@ -40,14 +39,11 @@ file-of c = start c .args .file .now
 abbrev here : In → Stage
 here c = let l = c .before .loop in stage (hostIn (l .host) (l .adjustments)) (l .position) (l .left) (l .at)
 
-body : (c : In) → Body (file-of c) (c .before .loop .at)
-body c = next-body (c .before .loop .inv .came) (c .loop-test .taken)
-
 held : (c : In) → Held (here c .host)
 held c = ready (c .before .loop .inv .came) .held
 
 fit : (c : In) → nextAt (file-of c) (c .before .loop .at) < 2 ^ 64
-fit c = omega (arith, body c .inside, start c .good)
+fit c = omega (arith, next-inside (c .before .loop .inv .came) (c .loop-test .taken), start c .good)
 
 -- there is room for the line
 room : (c : tie.Else1 Inv-loop μ-loop) → let l = c .before .before .before .loop in hasRoom (l .out) (l .next) ≡ true
