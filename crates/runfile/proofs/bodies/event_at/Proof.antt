@@ -1,7 +1,5 @@
 -- `runfile::bodies::event_at` meets its contract, kind by kind.
-use Prim.Native.Nat.{ℕ}
 use mathlib.Core.Path.{_≡_, sym}
-use mathlib.Core.List.{List}
 use lib.ListN.{drop, drop-of-length-le}
 use mir.Facts.{toZ-ofZ}
 use borrow.Author.Needs.{needs}
