@@ -5,7 +5,7 @@ use mathlib.Core.List.{List, [], _∷_, _++_}
 use lib.Dec.{ltb}
 use lib.IntN.{ℤ, pos, negsuc}
 use Rattle.model.specs.declared.Waking.{Waking}
-use Rattle.model.specs.Events.{Event, create, operate, setValue, remove, signal, exit, query, Answer, Result}
+use Rattle.model.specs.Events.{Event, isQuery, Answer, Result}
 
 -- ---- numbers
 
@@ -82,13 +82,7 @@ queryLine position a = queryText position (a .code) (a .value) (a .seen .last) (
 -- ---- the lines of a list of events
 
 unfoldable pub lineOf : ℕ → Event → Result → List ℕ
-lineOf position (create count read alter) r = eventLine position r
-lineOf position (operate p i bytes) r = eventLine position r
-lineOf position (setValue i n v) r = eventLine position r
-lineOf position (remove i) r = eventLine position r
-lineOf position (signal p) r = eventLine position r
-lineOf position (exit p) r = eventLine position r
-lineOf position (query i n) r = queryLine position (r .answer)
+lineOf position e r = cond (isQuery e) (queryLine position (r .answer)) (eventLine position r)
 
 -- "then a line for each", from a position on
 unfoldable pub textOf : ℕ → List Event → List Result → List ℕ

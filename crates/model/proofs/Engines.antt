@@ -1,22 +1,60 @@
 -- The claim about the two engines (specs/Runs.antt), and what holds of every state that is fresh or came back from an event.
-use Prim.Native.Nat.{_≤_}
+use Prim.Native.Nat.{ℕ, _≤_, _<_}
 use native.Mathlib.Omega.{arith}
 use mathlib.Core.Path.{_≡_, refl, subst}
+use mathlib.Core.Logic.{_≢_}
+use mathlib.Core.Bool.{Bool, not}
 use mathlib.Core.List.{List, [], _∷_}
-use lib.IntN.{pos}
+use lib.IntN.{ℤ, pos}
+use borrow.Author.Tests.{not-true}
 use Rattle.model.specs.declared.Engine.{Engine}
 use Rattle.model.specs.declared.Engine.the-variants.{Plain, Quick}
 use Rattle.model.specs.Limits.{slots, allSemaphores, allAdjustments}
-use Rattle.model.specs.State.{State, freshState, noSet}
+use Rattle.model.specs.State.{Sleeper, State, freshState, noSet}
+use Rattle.model.specs.Marks.{mine}
 use Rattle.model.specs.Waking.{waker}
-use Rattle.model.specs.Events.{Event, create, operate, setValue, remove, signal, exit, query, event}
+use Rattle.model.specs.Checks.{slotOf, freeSlot, checkCreate, checkNumber, checkRemove, checkProcess}
+use Rattle.model.specs.Events.{Event, create, operate, setValue, remove, signal, exit, query, event, keep, doCreate, doRemove, doSignal, doQuery}
 use Rattle.model.specs.Runs.{Run, run, Reached, start, came, none, Pairwise, end, next, Alike, EnginesAgree}
-use Rattle.model.proofs.Lists.{all-replicate}
-use Rattle.model.specs.Invariant.{Invariant, alone}
-use Rattle.model.proofs.EventLaws.{Agrees, create-agrees, remove-agrees, signal-agrees, query-agrees}
+use Rattle.model.specs.Invariant.{Fits, Invariant, alone, countAt}
+use Rattle.model.proofs.Lists.{all-map, all-replicate}
+use Rattle.model.proofs.QueueLaws.{keep-test, notOf}
+use Rattle.model.proofs.CheckLaws.{alive, Creatable, create-passes, remove-passes}
+use Rattle.model.proofs.Agree.{slot-other}
+use Rattle.model.proofs.EventLaws.{Agrees, quiet, checked-agrees, cleared-kept, keep-kept}
 use Rattle.model.proofs.WakingEvents.{operate-agrees, setValue-agrees, exit-agrees}
 
--- ---- one event
+-- ---- the events that wake nobody by a rule
+
+create-agrees : (s : State) (count read alter : ℕ) → Invariant s → Agrees (doCreate s count read alter) (doCreate s count read alter)
+unfolding doCreate
+create-agrees s count read alter i =
+    checked-agrees (checkCreate s count) s _ _ i (λ e.
+    let c : Creatable s count = create-passes s count e in
+    quiet _ refl (cleared-kept s (freeSlot (s .sets)) _ i (c .slot) (c .fits) (all-map (away c) (i .fits))))
+  where
+    away : Creatable s count → (q : Sleeper) → Fits (s .sets) q → q .slot ≢ freeSlot (s .sets)
+    away c q f e = let x : 0 < countAt (s .sets) (freeSlot (s .sets)) = rw e at (alive (s .sets) q f) in omega (arith, x, c .free)
+
+remove-agrees : (s : State) (i : ℤ) → Invariant s → Agrees (doRemove s i) (doRemove s i)
+unfolding doRemove
+remove-agrees s j i =
+    checked-agrees (checkRemove s j) s _ _ i (λ e.
+    quiet _ refl (cleared-kept (record { sets = s .sets; table = s .table; queue = keep stays (s .queue) }) (slotOf j) _ (keep-kept s stays i) (remove-passes s j e .slot) (omega arith)
+    (all-map (λ c n. slot-other (slotOf j) c (not-true _ n)) (keep-test stays (s .queue)))))
+  where
+    stays : Sleeper → Bool
+    stays c = not (mine (slotOf j) c)
+
+signal-agrees : (s : State) (p : ℕ) → Invariant s → Agrees (doSignal s p) (doSignal s p)
+unfolding doSignal
+signal-agrees s p i = checked-agrees (checkProcess p) s _ _ i (λ e. quiet _ refl (keep-kept s (notOf p) i))
+
+query-agrees : (s : State) (i : ℤ) (n : ℕ) → Invariant s → Agrees (doQuery s i n) (doQuery s i n)
+unfolding doQuery
+query-agrees s j n i = checked-agrees (checkNumber s j n) s _ _ i (λ e. quiet _ refl i)
+
+-- ---- any event
 
 pub event-agrees : (s : State) (e : Event) → Invariant s → Agrees (event (waker Quick) s e) (event (waker Plain) s e)
 unfolding event

@@ -1,30 +1,23 @@
--- What is claimed of one event in both engines; and that it holds of the events that wake nobody by a rule.
+-- What is claimed of one event in both engines, and laws that the events share.
 use Prim.Native.Nat.{ℕ, zero, suc, _≤_, _<_}
 use native.Mathlib.Nat.{le-refl}
 use native.Mathlib.Omega.{arith}
 use mathlib.Core.Path.{_≡_, refl, ap, _∙_}
 use mathlib.Core.Logic.{_≢_}
-use mathlib.Core.Bool.{Bool, false, not}
+use mathlib.Core.Bool.{Bool, false}
 use mathlib.Core.List.{List}
 use lib.ListN.{set, length-set}
 use lib.Seq.{getD-set-other}
-use lib.IntN.{ℤ}
-use borrow.Author.Tests.{not-true}
 use Rattle.model.specs.declared.Set.{Set}
 use Rattle.model.specs.Limits.{slots, semaphores}
 use Rattle.model.specs.State.{Sleeper, State, noSet}
-use Rattle.model.specs.Marks.{mine}
 use Rattle.model.specs.Waking.{World, Ended, couldFinish}
-use Rattle.model.specs.Checks.{slotOf, freeSlot, checkCreate, checkNumber, checkRemove, checkProcess}
-use Rattle.model.specs.Events.{Result, refused, checked, wokenAs, cleared, keep, doCreate, doRemove, doSignal, doQuery}
+use Rattle.model.specs.Events.{Result, refused, checked, wokenAs, cleared, keep}
 use Rattle.model.specs.Runs.{All, Alike}
-use Rattle.model.proofs.Lists.{all-map, all-zip, all-zip3, all-set}
-use Rattle.model.specs.Invariant.{Fits, Invariant, countAt}
-use Rattle.model.proofs.QueueLaws.{keep-all, keep-test, keep-distinct, notOf}
-use Rattle.model.proofs.CheckLaws.{alive, Creatable, create-passes, remove-passes}
+use Rattle.model.specs.Invariant.{Fits, Invariant, Calm, countAt}
+use Rattle.model.proofs.Lists.{all-zip, all-zip3, all-set}
+use Rattle.model.proofs.QueueLaws.{keep-all, keep-distinct}
 use Rattle.model.proofs.TableLaws.{cleared-good, cleared-stuck}
-use Rattle.model.specs.Invariant.{Calm}
-use Rattle.model.proofs.Agree.{slot-other}
 
 -- one event in the quick and in the plain engine: what is claimed of it, the same state, and the invariant of that state
 pub record Agrees (quick plain : Result) : Type 0 where
@@ -60,7 +53,7 @@ fits-set sets slot k q ne f =
     record { process = f .process; last = f .last; slot = f .slot; some = f .some; whole = f .whole; short = f .short; numbers = rw e (f .numbers) }
 
 -- a slot at which nobody sleeps is cleared and given a set
-cleared-kept : (s : State) (slot : ℕ) (k : Set) → Invariant s → slot < slots → k .count ≤ semaphores → All (λ (q : Sleeper). q .slot ≢ slot) (s .queue)
+pub cleared-kept : (s : State) (slot : ℕ) (k : Set) → Invariant s → slot < slots → k .count ≤ semaphores → All (λ (q : Sleeper). q .slot ≢ slot) (s .queue)
     → Invariant (record { sets = set (s .sets) slot k; table = cleared (s .table) slot; queue = s .queue })
 cleared-kept s slot k i hs hk ne =
     record {
@@ -83,33 +76,3 @@ keep-kept s test i =
       distinct = keep-distinct test (s .queue) (i .distinct);
       stuck = keep-all test (s .queue) (i .stuck);
     }
-
-pub create-agrees : (s : State) (count read alter : ℕ) → Invariant s → Agrees (doCreate s count read alter) (doCreate s count read alter)
-unfolding doCreate
-create-agrees s count read alter i =
-    checked-agrees (checkCreate s count) s _ _ i (λ e.
-    let c : Creatable s count = create-passes s count e in
-    quiet _ refl (cleared-kept s (freeSlot (s .sets)) _ i (c .slot) (c .fits) (all-map (away c) (i .fits))))
-  where
-    away : Creatable s count → (q : Sleeper) → Fits (s .sets) q → q .slot ≢ freeSlot (s .sets)
-    away c q f e = let x : 0 < countAt (s .sets) (freeSlot (s .sets)) = rw e at (alive (s .sets) q f) in omega (arith, x, c .free)
-
-pub remove-agrees : (s : State) (i : ℤ) → Invariant s → Agrees (doRemove s i) (doRemove s i)
-unfolding doRemove
-remove-agrees s j i =
-    checked-agrees (checkRemove s j) s _ _ i (λ e.
-    quiet _ refl (cleared-kept (record { sets = s .sets; table = s .table; queue = keep stays (s .queue) }) (slotOf j) _ (keep-kept s stays i) (remove-passes s j e .slot) (omega arith)
-    (all-map (λ c n. slot-other (slotOf j) c (not-true _ n)) (keep-test stays (s .queue)))))
-  where
-    stays : Sleeper → Bool
-    stays c = not (mine (slotOf j) c)
-
--- ---- signal and query
-
-pub signal-agrees : (s : State) (p : ℕ) → Invariant s → Agrees (doSignal s p) (doSignal s p)
-unfolding doSignal
-signal-agrees s p i = checked-agrees (checkProcess p) s _ _ i (λ e. quiet _ refl (keep-kept s (notOf p) i))
-
-pub query-agrees : (s : State) (i : ℤ) (n : ℕ) → Invariant s → Agrees (doQuery s i n) (doQuery s i n)
-unfolding doQuery
-query-agrees s j n i = checked-agrees (checkNumber s j n) s _ _ i (λ e. quiet _ refl i)

@@ -12,6 +12,8 @@ use Rattle.model.specs.declared.Outcome.{Outcome}
 use Rattle.model.specs.declared.Outcome.the-variants.{Done, Sleep, Again, Range}
 use Rattle.model.specs.declared.Copies.{Copies}
 use Rattle.model.specs.declared.Waking.{Waking}
+use Rattle.model.specs.declared.Event as declared
+use Rattle.model.specs.declared.Event.the-variants.{Create, Operate, SetValue, Remove, Signal, Exit, Query}
 use Rattle.model.specs.Limits.{slots, semaphores, processes, valueMax, allSemaphores}
 use Rattle.model.specs.State.{Table, withValues, withAdjustments, Sleeper, State, row, undoRow, freeSet, noSet}
 use Rattle.model.specs.Judge.{codeOf}
@@ -36,6 +38,26 @@ pub data Event : Type 0 where
   exit : ℕ → Event
   -- identifier, number
   query : ℤ → ℕ → Event
+
+-- the event that is meant by one that is handed in, with the bytes beside it; only an operate has operations
+abbrev pub eventOf : declared.Event → List ℕ → Event
+eventOf (Create count read alter) operations = create count read alter
+eventOf (Operate process identifier) operations = operate process identifier operations
+eventOf (SetValue identifier number value) operations = setValue identifier number value
+eventOf (Remove identifier) operations = remove identifier
+eventOf (Signal process) operations = signal process
+eventOf (Exit process) operations = exit process
+eventOf (Query identifier number) operations = query identifier number
+
+-- a query alone is answered with what it saw; any other event tells
+abbrev pub isQuery : Event → Bool
+isQuery (create count read alter) = false
+isQuery (operate process identifier operations) = false
+isQuery (setValue identifier number value) = false
+isQuery (remove identifier) = false
+isQuery (signal process) = false
+isQuery (exit process) = false
+isQuery (query identifier number) = true
 
 -- what a query shows beside the value; zeros in every other answer
 pub record Seen : Type 0 where

@@ -9,7 +9,6 @@ pub mod Waking
 pub mod Checks
 pub mod Counts
 pub mod Events
-pub mod Handed
 pub mod Runs
 pub mod Invariant
 pub mod Situations

@@ -14,20 +14,11 @@ use Rattle.model.specs.Events.{clearRows, cleared, doCreate, operated, doOperat
 use Rattle.model.specs.Runs.{run}
 use Rattle.runfile.specs.Fields.{wordAt, signed32}
 use Rattle.runfile.specs.Table.{countOf, entriesFrom, chains}
-use Rattle.runfile.specs.Body.{sizeOf, sizeAt, operationsAt, eventAt, bodyCode}
+use Rattle.runfile.specs.Body.{sizeOf, sizeIn, operationsIn, eventIn, bodyCode}
 use Rattle.runfile.specs.File.{fileOf, eventsOf, bad}
+use Rattle.runfile.proofs.Examples.{example}
 use Rattle.lines.specs.Text.{digitsIn, digitsOf, signedOf, wordLine, badLine, wakingText, wakingsText, eventText, lineOf, textOf}
 use Rattle.replaying.specs.Replay.{firstLine, eventsIn, textOfFile, replayed}
-
-abbrev example : List ℕ
-example =
-    3 ∷ 0
-    ∷ 14 ∷ 0 ∷ 4 ∷ 0
-    ∷ 18 ∷ 0 ∷ 13 ∷ 0
-    ∷ 31 ∷ 0 ∷ 13 ∷ 0
-    ∷ 1 ∷ 1 ∷ 255 ∷ 255
-    ∷ 2 ∷ 1 ∷ 0 ∷ 0 ∷ 0 ∷ 0 ∷ 1 ∷ 0 ∷ 0 ∷ 255 ∷ 255 ∷ 0 ∷ 0
-    ∷ 2 ∷ 2 ∷ 0 ∷ 0 ∷ 0 ∷ 0 ∷ 1 ∷ 0 ∷ 0 ∷ 1 ∷ 0 ∷ 0 ∷ 0 ∷ []
 
 -- `events 3`, `0 0 0 0`, `1 -1 0 0`, `2 0 0 1 1=0`
 abbrev text : List ℕ
@@ -38,7 +29,7 @@ text =
     ∷ 50 ∷ 32 ∷ 48 ∷ 32 ∷ 48 ∷ 32 ∷ 49 ∷ 32 ∷ 49 ∷ 61 ∷ 48 ∷ 10 ∷ []
 
 whole-example : (engine : Engine) → replayed engine example ≡ text
-unfolding firstLine eventsIn textOfFile textOf lineOf eventText wakingsText wakingText wordLine signedOf digitsOf digitsIn fileOf eventsOf bodyCode eventAt operationsAt sizeAt sizeOf chains entriesFrom countOf signed32 wordAt run event doCreate operated doOperate identifierOf slotOf namesSet noProcess asleep numberTooHigh permitted freeFrom checkCreate checkOperate clearRows cleared waker plain quick plainRound quickRound finish without look lastsAfter applied after valuesOf adjustmentsOf judgeFrom goOn step nextValue nextAdjustment codeOf finishes operationsFrom signed16 isZero unmark marked namedBy differing mine maskOf
+unfolding firstLine eventsIn textOfFile textOf lineOf eventText wakingsText wakingText wordLine signedOf digitsOf digitsIn fileOf eventsOf bodyCode eventIn operationsIn sizeIn sizeOf chains entriesFrom countOf signed32 wordAt run event doCreate operated doOperate identifierOf slotOf namesSet noProcess asleep numberTooHigh permitted freeFrom checkCreate checkOperate clearRows cleared waker plain quick plainRound quickRound finish without look lastsAfter applied after valuesOf adjustmentsOf judgeFrom goOn step nextValue nextAdjustment codeOf finishes operationsFrom signed16 isZero unmark marked namedBy differing mine maskOf
 whole-example Plain = refl
 whole-example Quick = refl
 

@@ -1,19 +1,21 @@
 -- An event is run and its reply written: the line is that of the event, and the host is the one after it.
 use Prim.Native.Nat.{ℕ, _+_, _≤_}
 use mathlib.Core.Path.{_≡_, refl, ap, _∙_}
+use mathlib.Core.Bool.{Bool, true, false, cond}
 use mathlib.Core.List.{List}
 use lib.ListN.{length, take}
 use Rattle.model.specs.declared.Engine.{Engine}
 use Rattle.model.specs.declared.Waking.{Waking}
 use Rattle.model.specs.declared.Reply.{Reply}
+use Rattle.model.specs.declared.Reply.the-variants as reply
 use Rattle.model.specs.Waking.{waker}
-use Rattle.model.specs.Events.{Event, create, operate, setValue, remove, signal, exit, query, Result, event}
+use Rattle.model.specs.Events.{Event, isQuery, Result, event}
 use Rattle.host.specs.Holding.{Host, hostOf, stateIn}
 use Rattle.wakings.specs.Wakings.{listOf}
 use Rattle.wakings.proofs.ListLaws.{take-listed}
-use Rattle.service.specs.After.{Replied, replyOf, repliedOf}
+use Rattle.service.specs.After.{toldOf, queriedOf, Replied, replyOf, repliedOf}
 use Rattle.runfile.specs.Body.{eventAt}
-use Rattle.lines.specs.Text.{eventText, eventLine, lineOf}
+use Rattle.lines.specs.Text.{eventText, eventLine, queryLine, lineOf}
 use Rattle.lines.specs.Buffer.{lineBytes, putLine}
 use Rattle.replaying.specs.Replay.{Stage, nextResult, nextLine, replyText}
 
@@ -24,13 +26,11 @@ module _ (position : ℕ) (r : Result) where
 
   pub reply-line : (e : Event) → replyText position (listOf (r .wakings)) (replyOf e r) ≡ lineOf position e r
   unfolding lineOf
-  reply-line (create count read alter) = told
-  reply-line (operate p i bytes) = told
-  reply-line (setValue i n v) = told
-  reply-line (remove i) = told
-  reply-line (signal p) = told
-  reply-line (exit p) = told
-  reply-line (query i n) = refl
+  reply-line e = by (isQuery e)
+    where
+      by : (b : Bool) → replyText position (listOf (r .wakings)) (cond b (reply.Seen (queriedOf (r .answer))) (reply.Told (toldOf r))) ≡ cond b (queryLine position (r .answer)) (eventLine position r)
+      by true = refl
+      by false = told
 
 pub record Turned (engine : Engine) (file : List ℕ) (s : Stage) (out : List ℕ) (next : ℕ) (x : Host) (out′ : List ℕ) (next′ : ℕ) : Type 0 where
   pub host : x ≡ hostOf (nextResult engine file s .state)

@@ -1,7 +1,7 @@
 -- What holds of a stage that came so, and how the next event goes on from it.
 use Prim.Native.Nat.{ℕ, zero, suc, _+_, _-_, _<_, _≤_}
-use mathlib.Core.Path.{_≡_, refl, sym, ap, subst, _∙_}
-use mathlib.Core.List.{List, [], _∷_, _++_}
+use mathlib.Core.Path.{_≡_, refl, sym, ap, _∙_}
+use mathlib.Core.List.{List, [], _++_}
 use native.Mathlib.Omega.{arith}
 use lib.ListN.{length}
 use Rattle.model.specs.declared.Engine.{Engine}
@@ -12,7 +12,7 @@ use Rattle.host.proofs.HeldLaws.{state-back, held-fresh, held-next}
 use Rattle.runfile.specs.Table.{fileMax, tableEnd, countOf}
 use Rattle.runfile.specs.Body.{eventAt, nextAt, eventsFrom}
 use Rattle.runfile.specs.File.{codeOfFile}
-use Rattle.runfile.proofs.Walk.{Body, Bodies, is-good, good-events, good-bodies, bad-code, events-turn, body-turn}
+use Rattle.runfile.proofs.Walk.{Bodies, within, is-good, good-events, good-bodies, bad-code, events-turn, bodies-turn}
 use Rattle.lines.specs.Text.{textOf}
 use Rattle.replaying.specs.Replay.{Stage, eventsIn, startOf, nextLine, onward, Came, started, went}
 
@@ -36,17 +36,6 @@ pub length-events : (file : List ℕ) (at n : ℕ) → length (eventsFrom file a
 unfolding eventsFrom
 length-events file at zero = refl
 length-events file at (suc n) = ap suc (length-events file (nextAt file at) n)
-
--- a turn with all of n bodies left
-whole : (n : ℕ) → n ≡ n - 0
-whole n = omega arith
-
-module _ (file : List ℕ) (at n : ℕ) (h : 0 < n) where
-  first-event : eventsFrom file at n ≡ eventAt file at ∷ eventsFrom file (nextAt file at) (n - 1)
-  first-event = ap (eventsFrom file at) (whole n) ∙ events-turn file at n 0 h
-
-  first-body : Bodies file at n → Body file at × Bodies file (nextAt file at) (n - 1)
-  first-body bs = body-turn file at n 0 h (subst (Bodies file at) (whole n) bs)
 
 -- the start of a refused file, and of a good one
 module _ (file : List ℕ) where
@@ -74,7 +63,7 @@ ready {file} (went {s} k h engine) =
     let r : Ready file s = ready k in
     record {
       held = held-next (s .host) (r .held) engine (eventAt file (s .at));
-      bodies = λ l. first-body file (s .at) (s .left) h (r .bodies h) .1;
+      bodies = λ l. bodies-turn file (s .at) (s .left) h (r .bodies h);
       few = omega (arith, r .few);
     }
 
@@ -87,15 +76,16 @@ rest engine file s =
     textOf (s .position) es (run engine (stateIn (s .host)) es .results)
 
 module _ {file : List ℕ} {s : Stage} (k : Came file s) (h : 0 < s .left) where
-  pub next-body : Body file (s .at)
-  next-body = first-body file (s .at) (s .left) h (ready k .bodies h) .0
+  -- its body lies within the file
+  pub next-inside : nextAt file (s .at) ≤ length file
+  next-inside = within (bodies-turn file (s .at) (s .left) h (ready k .bodies h))
 
   -- its line, and then what is left behind it
   pub rest-turn : (engine : Engine) → rest engine file s ≡ nextLine engine file s ++ rest engine file (onward engine file s)
   unfolding rest onward nextLine run textOf
   rest-turn engine =
       let e = state-back (came (ready k .held .reached) engine (eventAt file (s .at))) in
-      rw (first-event file (s .at) (s .left) h, e)
+      rw (events-turn file (s .at) (s .left) h, e)
 
 pub rest-over : (engine : Engine) (file : List ℕ) (s : Stage) → s .left ≡ 0 → rest engine file s ≡ []
 unfolding rest eventsFrom textOf

@@ -94,8 +94,9 @@ pub fn piece(
         if !has_room(out.len(), next) {
             break;
         }
-        let event = runfile::event_at(file, at);
         let operations = runfile::operations_at(file, at);
+        let size = runfile::size_at(file, at);
+        let event = runfile::event_at(file, at);
         let reply = run(
             &mut *host,
             &mut *adjustments,
@@ -105,7 +106,7 @@ pub fn piece(
             operations,
         );
         next = reply_line(out, next, position, reply, &wakings);
-        at += runfile::bytes_of(event, operations);
+        at += size;
         position += 1;
         left -= 1;
     }

@@ -12,8 +12,12 @@ use Rattle.runfile.specs.Fields.{byteAt}
 pub past : (file : List ℕ) (at : ℕ) → length file ≤ at → byteAt file at ≡ 0
 past file at h = List·getD-eq-default file 0 h
 
--- a part to the end is all that is left
-pub to-end : (file : List ℕ) (at : ℕ) → take (length file - at) (drop at file) ≡ drop at file
+-- the part of a file from a position to its end, as code takes it
+abbrev pub rest : List ℕ → ℕ → List ℕ
+rest file at = take (length file - at) (drop at file)
+
+-- .. is all that is left
+pub to-end : (file : List ℕ) (at : ℕ) → rest file at ≡ drop at file
 to-end file at = let l : length (drop at file) ≤ length file - at = simp length-drop (omega arith) in take-all _ _ l
 
 pub minus-full : (n : ℕ) → n < 4294967296 → pos n -ℤ pos 4294967296 ≡ negsuc (4294967295 - n)

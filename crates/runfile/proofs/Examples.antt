@@ -6,11 +6,11 @@ use lib.IntN.{pos, negsuc}
 use Rattle.model.specs.Events.{create, operate, setValue}
 use Rattle.runfile.specs.Fields.{wordAt, signed32}
 use Rattle.runfile.specs.Table.{countOf, entriesFrom, chains}
-use Rattle.runfile.specs.Body.{sizeOf, sizeAt, operationsAt, eventAt, handedAt, bodyCode}
+use Rattle.runfile.specs.Body.{sizeOf, sizeIn, operationsIn, eventIn, handedIn, handedAt, bodyCode}
 use Rattle.runfile.specs.File.{fileOf, eventsOf, bad, good}
 
 -- "Whole example, 44 bytes"
-abbrev example : List ℕ
+abbrev pub example : List ℕ
 example =
     3 ∷ 0
     ∷ 14 ∷ 0 ∷ 4 ∷ 0
@@ -26,16 +26,16 @@ whole : fileOf example
     ∷ operate 1 (pos 0) (0 ∷ 0 ∷ 255 ∷ 255 ∷ 0 ∷ 0 ∷ [])
     ∷ operate 2 (pos 0) (0 ∷ 0 ∷ 1 ∷ 0 ∷ 0 ∷ 0 ∷ [])
     ∷ [])
-unfolding wordAt signed32 countOf entriesFrom chains sizeOf sizeAt operationsAt eventAt bodyCode fileOf eventsOf
+unfolding wordAt signed32 countOf entriesFrom chains sizeOf sizeIn operationsIn eventIn bodyCode fileOf eventsOf
 whole = refl
 
 -- beside the create nothing is handed on, beside the operate its operation
 beside-create : handedAt example 14 ≡ []
-unfolding handedAt
+unfolding handedIn
 beside-create = refl
 
 beside-operate : handedAt example 18 ≡ 0 ∷ 0 ∷ 255 ∷ 255 ∷ 0 ∷ 0 ∷ []
-unfolding handedAt operationsAt
+unfolding handedIn operationsIn
 beside-operate = refl
 
 -- "Two zero bytes are a good file"
@@ -46,7 +46,7 @@ none = refl
 -- an identifier and a value below zero
 negative : fileOf (1 ∷ 0 ∷ 6 ∷ 0 ∷ 11 ∷ 0 ∷ 3 ∷ 255 ∷ 255 ∷ 255 ∷ 255 ∷ 2 ∷ 1 ∷ 0 ∷ 0 ∷ 0 ∷ 128 ∷ [])
     ≡ good (setValue (negsuc 0) 258 (negsuc 2147483647) ∷ [])
-unfolding wordAt signed32 countOf entriesFrom chains sizeOf sizeAt operationsAt eventAt bodyCode fileOf eventsOf
+unfolding wordAt signed32 countOf entriesFrom chains sizeOf sizeIn operationsIn eventIn bodyCode fileOf eventsOf
 negative = refl
 
 -- the table cut off; a body one byte late; a byte too many; an unknown kind; no body, and one too short for its kind
@@ -62,8 +62,8 @@ one-more : fileOf (0 ∷ 0 ∷ 0 ∷ []) ≡ bad 202
 unfolding countOf entriesFrom chains fileOf
 one-more = refl
 
-unknown : fileOf (1 ∷ 0 ∷ 6 ∷ 0 ∷ 2 ∷ 0 ∷ 8 ∷ 1 ∷ []) ≡ bad 203
-unfolding countOf entriesFrom chains sizeOf sizeAt bodyCode fileOf eventsOf
+unknown : fileOf (1 ∷ 0 ∷ 6 ∷ 0 ∷ 2 ∷ 0 ∷ 255 ∷ 1 ∷ []) ≡ bad 203
+unfolding countOf entriesFrom chains sizeOf sizeIn bodyCode fileOf eventsOf
 unknown = refl
 
 empty : fileOf (1 ∷ 0 ∷ 6 ∷ 0 ∷ 0 ∷ 0 ∷ []) ≡ bad 204
@@ -71,5 +71,5 @@ unfolding countOf entriesFrom chains bodyCode fileOf eventsOf
 empty = refl
 
 too-short : fileOf (1 ∷ 0 ∷ 6 ∷ 0 ∷ 6 ∷ 0 ∷ 2 ∷ 1 ∷ 0 ∷ 0 ∷ 0 ∷ 0 ∷ []) ≡ bad 204
-unfolding countOf entriesFrom chains sizeOf sizeAt bodyCode fileOf eventsOf
+unfolding countOf entriesFrom chains sizeOf sizeIn bodyCode fileOf eventsOf
 too-short = refl

@@ -1,6 +1,5 @@
 -- Laws of the definitions; `Walk` is what a caller goes by.
 pub mod Bytes
-pub mod ByKind
 pub mod Loops
 pub mod Walk
 pub mod Examples

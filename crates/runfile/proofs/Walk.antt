@@ -1,35 +1,22 @@
 -- What a walk along the bodies of a good file goes by: its events are those decoded from the end of the table on, each body
--- where the last ended, and every body lies within the file; and what is read of a body is its event and its size.
-use Prim.Native.Nat.{ℕ, zero, suc, _+_, _*_, _-_, _<_, _≤_}
-use mathlib.Core.Path.{_≡_, refl, sym, ap, _∙_}
+-- where the last ended, and every body lies within the file.
+use Prim.Native.Nat.{ℕ, zero, suc, _+_, _-_, _<_, _≤_}
+use mathlib.Core.Path.{_≡_, refl, sym, _∙_}
 use mathlib.Core.Bool.{Bool, true, false, cond, _&&_}
-use mathlib.Core.List.{List, [], _∷_, map}
+use mathlib.Core.List.{List, _∷_}
 use native.Mathlib.Omega.{arith}
 use lib.Dec.{eqb}
-use lib.ListN.{length, take, drop, length-drop}
-use lib.Seq.{length-take-le}
-use borrow.Author.Tests.{ltb-false, eqb-true, eqb-false}
-use Rattle.model.specs.declared.Event as declared
-use Rattle.model.specs.Limits.{operationBytes}
+use lib.ListN.{length}
+use borrow.Author.Tests.{ltb-false, eqb-true}
 use Rattle.model.specs.Events.{Event}
-use Rattle.model.specs.Handed.{eventOf}
-use Rattle.runfile.specs.Fields.{byteAt}
-use Rattle.runfile.specs.Kinds.{createKind, operateKind, operateBytes, setValueKind, removeKind, signalKind, exitKind, queryKind}
 use Rattle.runfile.specs.Table.{fileMax, headBytes, entryBytes, countOf, Entry, entryAt, entriesFrom, tableOf, tableEnd, chains}
-use Rattle.runfile.specs.Body.{sizeOf, numberAt, sizeAt, operationsAt, eventAt, handedAt, bytesOf, bodyCode, nextAt, eventsFrom}
+use Rattle.runfile.specs.Body.{sizeAt, eventAt, bodyCode, nextAt, eventsFrom}
 use Rattle.runfile.specs.File.{File, bad, good, before, eventsOf, fileOf, codeOf, codeOfFile}
--- of these this file uses the last; the crate replaying uses them all
-pub use Rattle.runfile.proofs.ByKind.{create-at, operate-at, set-value-at, remove-at, signal-at, exit-at, query-at, operate-size}
-
--- a body of a known kind that lies within the file
-pub record Body (file : List ℕ) (at : ℕ) : Type 0 where
-  pub known : 0 < sizeAt file at
-  pub inside : nextAt file at ≤ length file
 
 -- so many bodies from a position on, the last of which ends the file
 pub data Bodies (file : List ℕ) : ℕ → ℕ → Type 0 where
   end : {at : ℕ} → at ≡ length file → Bodies file at zero
-  next : {at n : ℕ} → Body file at → Bodies file (nextAt file at) n → Bodies file at (suc n)
+  next : {at n : ℕ} → Bodies file (nextAt file at) n → Bodies file at (suc n)
 
 -- ---- what the code 0 tells
 
@@ -89,22 +76,16 @@ both false b h = (h, refl-of h)
     refl-of : false ≡ true → b ≡ true
     refl-of z = let o : _≡_ {A = ℕ} 0 1 = cc in no-code 0 (sym o)
 
-fine : (empty unknown right : Bool) → _≡_ {A = ℕ} (cond empty 204 (cond unknown 203 (cond right 0 204))) 0 → (unknown ≡ false) × (right ≡ true)
+fine : (empty unknown right : Bool) → _≡_ {A = ℕ} (cond empty 204 (cond unknown 203 (cond right 0 204))) 0 → right ≡ true
 fine true unknown right h = no-code 203 h
 fine false true right h = no-code 202 h
-fine false false true h = (refl, refl)
+fine false false true h = refl
 fine false false false h = no-code 203 h
 
--- a body whose code is 0 has a known kind, and its length is the one due
-body-fine : (file : List ℕ) (at size : ℕ) → bodyCode file at size ≡ 0 → (0 < sizeAt file at) × (size ≡ sizeAt file at)
+-- the length of a body whose code is 0 is the one due
+body-fine : (file : List ℕ) (at size : ℕ) → bodyCode file at size ≡ 0 → size ≡ sizeAt file at
 unfolding bodyCode
-body-fine file at size h =
-    let f = fine (eqb size 0) _ _ h in
-    (some (sizeAt file at) (eqb-false _ _ (f .0)), eqb-true _ _ (f .1))
-  where
-    some : (n : ℕ) → (n ≡ 0 → ⊥) → 0 < n
-    some zero h = absurd (h refl)
-    some (suc n) h = omega arith
+body-fine file at size h = eqb-true size _ (fine (eqb size 0) (eqb (sizeAt file at) 0) (eqb size (sizeAt file at)) h)
 
 first-fine : (code : ℕ) (e : Event) (rest : File) → codeOf (before code e rest) ≡ 0 → (code ≡ 0) × (codeOf rest ≡ 0)
 unfolding codeOf
@@ -114,7 +95,7 @@ first-fine (suc code) e rest h = no-code code h
 
 pub within : {file : List ℕ} {at n : ℕ} → Bodies file at n → at ≤ length file
 within (end e) = omega arith
-within (next b bs) = omega (arith, within bs)
+within (next bs) = omega (arith, within bs)
 
 record Walked (file : List ℕ) (es : List Entry) (at n : ℕ) : Type 0 where
   events : eventsOf file es ≡ good (eventsFrom file at n)
@@ -130,10 +111,10 @@ walked file (suc n) from at h k =
     let f = first-fine _ _ _ k in
     let o : e .offset ≡ at = eqb-true _ _ (c .0) in
     let b = rw o at (body-fine file (e .offset) (e .size) (f .0)) in
-    let w = walked file n (from + entryBytes) (nextAt file at) (rw (b .1) at (c .1)) (f .1) in
+    let w = walked file n (from + entryBytes) (nextAt file at) (rw b at (c .1)) (f .1) in
     record {
       events = rw (f .0, o, w .events);
-      bodies = next (record { known = b .0; inside = within (w .bodies) }) (w .bodies);
+      bodies = next (w .bodies);
     }
 
 -- ---- a good file
@@ -149,22 +130,7 @@ module _ (file : List ℕ) (h : codeOfFile file ≡ 0) where
   pub good-bodies : Bodies file (tableEnd (countOf file)) (countOf file)
   good-bodies = walk .bodies
 
-  -- the k-th is the one decoded at the k-th offset
-  pub good-listed : fileOf file ≡ good (map (λ e. eventAt file (e .offset)) (tableOf file (countOf file)))
-  unfolding eventsOf
-  good-listed = is-good file h .is ∙ listed (tableOf file (countOf file)) (is-good file h .bodies)
-    where
-      listed : (es : List Entry) → codeOf (eventsOf file es) ≡ 0 → eventsOf file es ≡ good (map (λ e. eventAt file (e .offset)) es)
-      listed [] k = refl
-      listed (e ∷ es) k =
-          let f = first-fine (bodyCode file (e .offset) (e .size)) (eventAt file (e .offset)) (eventsOf file es) k in
-          rw (f .0, listed es (f .1))
-
--- good exactly when the code is 0: events give 0, and any other code refuses the file
-pub good-code : (file : List ℕ) (es : List Event) → fileOf file ≡ good es → codeOfFile file ≡ 0
-unfolding codeOf
-good-code file es e = ap codeOf e
-
+-- any other code refuses the file
 pub bad-code : (file : List ℕ) → (codeOfFile file ≡ 0 → ⊥) → fileOf file ≡ bad (codeOfFile file)
 unfolding codeOf
 bad-code file h = by (fileOf file) h
@@ -173,72 +139,14 @@ bad-code file h = by (fileOf file) h
     by (bad code) h = refl
     by (good es) h = absurd (h refl)
 
--- ---- a turn of the walk, with k of n bodies passed
-
-left : (n k : ℕ) → k < n → n - k ≡ suc (n - (k + 1))
-left n k h = omega arith
-
-module _ (file : List ℕ) (at n k : ℕ) (h : k < n) where
-  pub events-turn : eventsFrom file at (n - k) ≡ eventAt file at ∷ eventsFrom file (nextAt file at) (n - (k + 1))
-  unfolding eventsFrom
-  events-turn = rw (left n k h)
-
-  here : (m : ℕ) → Bodies file at (suc m) → Body file at × Bodies file (nextAt file at) m
-  here m (next b bs) = (b, bs)
-
-  pub body-turn : Bodies file at (n - k) → Body file at × Bodies file (nextAt file at) (n - (k + 1))
-  body-turn bs = here (n - (k + 1)) (rw (left n k h) at bs)
-
-pub events-over : (file : List ℕ) (at n : ℕ) → eventsFrom file at (n - n) ≡ []
-unfolding eventsFrom
-events-over file at n = let e : n - n ≡ zero = omega arith in rw e
-
--- ---- a body as it is read
-
--- by cases on a test
-by-test : (b : Bool) (x y : Event) (m n : ℕ) → (b ≡ true → bytesOf x ≡ m) → (b ≡ false → bytesOf y ≡ n) → bytesOf (cond b x y) ≡ cond b m n
-by-test true x y m n p q = p refl
-by-test false x y m n p q = q refl
+-- ---- a turn of the walk, with n bodies left
 
 module _ (file : List ℕ) (at : ℕ) where
-  operations-long : Body file at → byteAt file at ≡ operateKind → length (operationsAt file at) ≡ operationBytes * numberAt file at
-  unfolding operationsAt
-  operations-long b k =
-      let l : operationBytes * numberAt file at ≤ length (drop (at + operateBytes) file) = simp length-drop (omega (arith, b .inside, operate-size file at k)) in
-      length-take-le _ _ l
+  pub events-turn : (n : ℕ) → 0 < n → eventsFrom file at n ≡ eventAt file at ∷ eventsFrom file (nextAt file at) (n - 1)
+  unfolding eventsFrom
+  events-turn zero h = absurd (omega arith)
+  events-turn (suc n) h = let e : suc n - 1 ≡ n = omega arith in rw e
 
-  -- the bytes of its event are those of the body
-  pub body-bytes : Body file at → bytesOf (eventAt file at) ≡ sizeAt file at
-  unfolding eventAt sizeAt sizeOf
-  body-bytes b =
-      let k = byteAt file at in
-      by-test (eqb k createKind) _ _ _ _ (λ _. refl)
-      (λ n₁. by-test (eqb k operateKind) _ _ _ _ (λ o. ap (λ m. operateBytes + m) (operations-long b (eqb-true _ _ o)))
-      (λ n₂. by-test (eqb k setValueKind) _ _ _ _ (λ _. refl)
-      (λ n₃. by-test (eqb k removeKind) _ _ _ _ (λ _. refl)
-      (λ n₄. by-test (eqb k signalKind) _ _ _ _ (λ _. refl)
-      (λ n₅. by-test (eqb k exitKind) _ _ _ _ (λ _. refl)
-      (λ n₆. by-test (eqb k queryKind) _ _ _ _ (λ _. refl)
-      (λ n₇. absurd (none (rw (n₁, n₂, n₃, n₄, n₅, n₆, n₇) at (b .known))))))))))
-    where
-      none : 0 < 0 → ⊥
-      none z = omega arith
-
-  -- what `event_at`, `operations_at` and `bytes_of` answer
-  module _ (e : declared.Event) {operations : List ℕ} (o : operations ≡ handedAt file at) (r : eventOf e (handedAt file at) ≡ eventAt file at) where
-    -- the event that is handed in is that of the body
-    pub event-read : eventOf e operations ≡ eventAt file at
-    event-read = rw o r
-
-    -- its bytes lead to the next body
-    pub size-read : {size : ℕ} → Body file at → size ≡ bytesOf (eventOf e operations) → size ≡ sizeAt file at
-    size-read b s = s ∙ ap bytesOf event-read ∙ body-bytes b
-
--- ---- used by the crate replaying alone
-
-pub operations-part : (file : List ℕ) (at from to : ℕ) → from ≡ at + operateBytes → to ≡ at + operateBytes + operationBytes * numberAt file at
-    → take (to - from) (drop from file) ≡ operationsAt file at
-unfolding operationsAt
-operations-part file at from to f t =
-    let e : to - from ≡ operationBytes * numberAt file at = omega arith in
-    rw (e, f)
+  pub bodies-turn : (n : ℕ) → 0 < n → Bodies file at n → Bodies file (nextAt file at) (n - 1)
+  bodies-turn zero h bs = absurd (omega arith)
+  bodies-turn (suc n) h (next bs) = let e : suc n - 1 ≡ n = omega arith in rw e bs

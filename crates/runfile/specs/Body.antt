@@ -1,17 +1,62 @@
--- "A body begins with its kind". Each definition takes the file and where the body begins.
+-- "A body begins with its kind". A definition whose name ends in `In` takes the bytes from where the body begins on, one whose
+-- name ends in `At` the file and that place.
 --
--- A new kind touches its two numbers in Kinds, a line in each of `sizeOf`, `eventAt` and `bytesOf` here, and, where bytes of
--- the body are handed on beside its event, `handedAt`; and model's events (specs/Events.antt, specs/Handed.antt).
+-- A new kind has its two numbers here, a line in `sizeOf` and one in `eventIn`; where bytes of the body are handed on beside
+-- its event, it is in `handedIn` too.
 use Prim.Native.Nat.{ℕ, zero, suc, _+_, _*_}
 use mathlib.Core.Bool.{cond}
 use mathlib.Core.List.{List, [], _∷_}
 use lib.Dec.{eqb}
 use lib.IntN.{pos}
-use lib.ListN.{length, take, drop}
+use lib.ListN.{take, drop}
 use Rattle.model.specs.Limits.{operationBytes}
 use Rattle.model.specs.Events.{Event, create, operate, setValue, remove, signal, exit, query}
 use Rattle.runfile.specs.Fields.{byteAt, halfAt, signedAt}
-use Rattle.runfile.specs.Kinds.{createKind, createBytes, operateKind, operateBytes, setValueKind, setValueBytes, removeKind, removeBytes, signalKind, signalBytes, exitKind, exitBytes, queryKind, queryBytes}
+
+-- ---- the kinds, in the order of the table in "The run file": the number of each, and the bytes of its body. An operate has
+-- more bytes, for its operations.
+
+abbrev pub createKind : ℕ
+createKind = 1
+
+abbrev pub createBytes : ℕ
+createBytes = 4
+
+abbrev pub operateKind : ℕ
+operateKind = 2
+
+abbrev pub operateBytes : ℕ
+operateBytes = 7
+
+abbrev pub setValueKind : ℕ
+setValueKind = 3
+
+abbrev pub setValueBytes : ℕ
+setValueBytes = 11
+
+abbrev pub removeKind : ℕ
+removeKind = 4
+
+abbrev pub removeBytes : ℕ
+removeBytes = 5
+
+abbrev pub signalKind : ℕ
+signalKind = 5
+
+abbrev pub signalBytes : ℕ
+signalBytes = 2
+
+abbrev pub exitKind : ℕ
+exitKind = 6
+
+abbrev pub exitBytes : ℕ
+exitBytes = 2
+
+abbrev pub queryKind : ℕ
+queryKind = 7
+
+abbrev pub queryBytes : ℕ
+queryBytes = 7
 
 -- the bytes of a body, by its kind and its number of operations, which an operate alone has; 0 for an unknown kind
 unfoldable pub sizeOf : ℕ → ℕ → ℕ
@@ -25,45 +70,51 @@ sizeOf kind number =
     (cond (eqb kind queryKind) queryBytes
     0))))))
 
+-- ---- one body
+
+abbrev pub kindIn : List ℕ → ℕ
+kindIn body = byteAt body 0
+
 -- the number of operations of an operate
-abbrev pub numberAt : List ℕ → ℕ → ℕ
-numberAt file at = byteAt file (at + 6)
+abbrev pub numberIn : List ℕ → ℕ
+numberIn body = byteAt body 6
 
 -- an operate below 7 bytes has no number; whatever is read in its place, 7 bytes or more are due
-unfoldable pub sizeAt : List ℕ → ℕ → ℕ
-sizeAt file at = sizeOf (byteAt file at) (numberAt file at)
+unfoldable pub sizeIn : List ℕ → ℕ
+sizeIn body = sizeOf (kindIn body) (numberIn body)
 
 -- "number of operations 1, six bytes each"
-unfoldable pub operationsAt : List ℕ → ℕ → List ℕ
-operationsAt file at = take (operationBytes * numberAt file at) (drop (at + operateBytes) file)
+unfoldable pub operationsIn : List ℕ → List ℕ
+operationsIn body = take (operationBytes * numberIn body) (drop operateBytes body)
 
 -- "1 create: count, read mask, alter mask (1 byte each). 2 operate: process 1, identifier 4 signed, number of operations 1, six
 -- bytes each. 3 set value: identifier 4, number 2, value 4 signed. 4 remove: identifier 4. 5 signal, 6 exit: process 1. 7 query:
 -- identifier 4, number 2." No good file has another kind; what stands for its event is never run.
-unfoldable pub eventAt : List ℕ → ℕ → Event
-eventAt file at =
-    cond (eqb (byteAt file at) createKind) (create (byteAt file (at + 1)) (byteAt file (at + 2)) (byteAt file (at + 3)))
-    (cond (eqb (byteAt file at) operateKind) (operate (byteAt file (at + 1)) (signedAt file (at + 2)) (operationsAt file at))
-    (cond (eqb (byteAt file at) setValueKind) (setValue (signedAt file (at + 1)) (halfAt file (at + 5)) (signedAt file (at + 7)))
-    (cond (eqb (byteAt file at) removeKind) (remove (signedAt file (at + 1)))
-    (cond (eqb (byteAt file at) signalKind) (signal (byteAt file (at + 1)))
-    (cond (eqb (byteAt file at) exitKind) (exit (byteAt file (at + 1)))
-    (cond (eqb (byteAt file at) queryKind) (query (signedAt file (at + 1)) (halfAt file (at + 5)))
+unfoldable pub eventIn : List ℕ → Event
+eventIn body =
+    cond (eqb (kindIn body) createKind) (create (byteAt body 1) (byteAt body 2) (byteAt body 3))
+    (cond (eqb (kindIn body) operateKind) (operate (byteAt body 1) (signedAt body 2) (operationsIn body))
+    (cond (eqb (kindIn body) setValueKind) (setValue (signedAt body 1) (halfAt body 5) (signedAt body 7))
+    (cond (eqb (kindIn body) removeKind) (remove (signedAt body 1))
+    (cond (eqb (kindIn body) signalKind) (signal (byteAt body 1))
+    (cond (eqb (kindIn body) exitKind) (exit (byteAt body 1))
+    (cond (eqb (kindIn body) queryKind) (query (signedAt body 1) (halfAt body 5))
     (query (pos 0) 0)))))))
 
 -- the bytes that are handed on beside the event: the operations of an operate
-unfoldable pub handedAt : List ℕ → ℕ → List ℕ
-handedAt file at = cond (eqb (byteAt file at) operateKind) (operationsAt file at) []
+unfoldable pub handedIn : List ℕ → List ℕ
+handedIn body = cond (eqb (kindIn body) operateKind) (operationsIn body) []
 
--- the bytes of the body that an event is written as
-abbrev pub bytesOf : Event → ℕ
-bytesOf (create count read alter) = createBytes
-bytesOf (operate process identifier operations) = operateBytes + length operations
-bytesOf (setValue identifier number value) = setValueBytes
-bytesOf (remove identifier) = removeBytes
-bytesOf (signal process) = signalBytes
-bytesOf (exit process) = exitBytes
-bytesOf (query identifier number) = queryBytes
+-- ---- in a file
+
+abbrev pub sizeAt : List ℕ → ℕ → ℕ
+sizeAt file at = sizeIn (drop at file)
+
+abbrev pub eventAt : List ℕ → ℕ → Event
+eventAt file at = eventIn (drop at file)
+
+abbrev pub handedAt : List ℕ → ℕ → List ℕ
+handedAt file at = handedIn (drop at file)
 
 -- "body empty: 204, kind unknown: 203, body length wrong for its kind (and number): 204"; 0 if the body is good
 unfoldable pub bodyCode : List ℕ → ℕ → ℕ → ℕ

@@ -1,43 +1,90 @@
-// The bodies: the size of each, its code, and its event.
+// The bodies: the kinds with their sizes, and the size, the code and the event of a body.
 //
-// A new kind has two constants in sizes.rt and an arm in `fixed` there, in `event_at` and in `bytes_of`; if a number in it
-// tells how much it has, it is in `each`, `number` and `operations_at` too. What it means is in specs/Kinds.antt and
-// specs/Body.antt, and it is an event of the crate model.
+// A new kind has two constants, and an arm in `fixed` and in `event_at`; if a number in it tells how much it has, it is in
+// `each`, `number` and `operations_at` too. What it means is in specs/Body.antt, and it is an event of the crate model.
 ghost use mathlib.Core.Path.{_≡_};
+ghost use mathlib.Core.Bool.{cond};
+ghost use lib.Dec.{eqb};
 ghost use lib.IntN.{pos};
-ghost use Rattle.model.specs.Handed.{eventOf};
-ghost use Rattle.runfile.specs.Body.{numberAt, sizeAt, bodyCode, eventAt, handedAt, bytesOf};
+ghost use Rattle.model.specs.Limits.{operationBytes};
+ghost use Rattle.model.specs.Events.{eventOf};
+ghost use Rattle.runfile.specs.Body.{operateKind, sizeOf, numberIn, sizeAt, bodyCode, eventAt, handedAt};
 use crate::fields::behind;
 use crate::fields::byte_at;
 use crate::fields::first;
 use crate::fields::half_at;
 use crate::fields::signed_at;
-use crate::sizes::CREATE;
-use crate::sizes::CREATE_BYTES;
-use crate::sizes::EXIT;
-use crate::sizes::EXIT_BYTES;
-use crate::sizes::OPERATE;
-use crate::sizes::OPERATE_BYTES;
-use crate::sizes::QUERY;
-use crate::sizes::QUERY_BYTES;
-use crate::sizes::REMOVE;
-use crate::sizes::REMOVE_BYTES;
-use crate::sizes::SET_VALUE;
-use crate::sizes::SET_VALUE_BYTES;
-use crate::sizes::SIGNAL;
-use crate::sizes::SIGNAL_BYTES;
-use crate::sizes::size_of;
 use model::Event;
 use model::OPERATION_BYTES;
 
+// Each kind, and the bytes of its body. An operate has more bytes, for its operations.
+const CREATE: u8 = 1;
+
+const CREATE_BYTES: u8 = 4;
+
+const OPERATE: u8 = 2;
+
+const OPERATE_BYTES: u8 = 7;
+
+const SET_VALUE: u8 = 3;
+
+const SET_VALUE_BYTES: u8 = 11;
+
+const REMOVE: u8 = 4;
+
+const REMOVE_BYTES: u8 = 5;
+
+const SIGNAL: u8 = 5;
+
+const SIGNAL_BYTES: u8 = 2;
+
+const EXIT: u8 = 6;
+
+const EXIT_BYTES: u8 = 2;
+
+const QUERY: u8 = 7;
+
+const QUERY_BYTES: u8 = 7;
+
+// The bytes of a body before its operations, 0 if there is no such kind.
+fn fixed(kind: u8) -> u8
+    ensures { λ r. ⌜ r ≡ sizeOf kind 0 ⌝ }
+{
+    match kind {
+        CREATE => CREATE_BYTES,
+        OPERATE => OPERATE_BYTES,
+        SET_VALUE => SET_VALUE_BYTES,
+        REMOVE => REMOVE_BYTES,
+        SIGNAL => SIGNAL_BYTES,
+        EXIT => EXIT_BYTES,
+        QUERY => QUERY_BYTES,
+        _ => 0,
+    }
+}
+
+// The bytes of one operation, 0 if the kind has none.
+fn each(kind: u8) -> usize
+    ensures { λ r. ⌜ r ≡ cond (eqb kind operateKind) operationBytes 0 ⌝ }
+{
+    if kind == OPERATE { OPERATION_BYTES } else { 0 }
+}
+
+// The bytes of a body, by its kind and its number of operations. As a sum of two choices between constants it needs no
+// jump, which a choice that has the product in one of its arms does.
+fn size_of(kind: u8, number: u8) -> usize
+    ensures { λ r. ⌜ r ≡ sizeOf kind number ⌝ }
+{
+    (fixed(kind) as usize) + each(kind) * (number as usize)
+}
+
 // The number of operations, in a body that is an operate.
 fn number(body: &[u8]) -> u8
-    ensures { λ r. ⌜ r ≡ numberAt (now (body .entry)) 0 ⌝ }
+    ensures { λ r. ⌜ r ≡ numberIn (now (body .entry)) ⌝ }
 {
     byte_at(body, 6)
 }
 
-// The bytes of the body at a position, by its kind and number, 0 if there is no such kind.
+// The bytes that are due to the body at a position, by its kind and number, 0 if there is no such kind.
 pub fn size_at(file: &[u8], at: usize) -> usize
     ensures { λ r. ⌜ r ≡ sizeAt (now (file .entry)) at ⌝ }
 {
@@ -121,24 +168,9 @@ pub fn operations_at(file: &[u8], at: usize) -> &[u8]
     }
     let body = &file[at..];
     if body[0] == OPERATE {
-        let rest = behind(body, OPERATE_BYTES);
+        let rest = behind(body, OPERATE_BYTES as usize);
         first(rest, OPERATION_BYTES * (number(body) as usize))
     } else {
         first(body, 0)
-    }
-}
-
-// The bytes of the body that an event with these operations was read from.
-pub fn bytes_of(event: Event, operations: &[u8]) -> usize
-    ensures { λ r. ⌜ r ≡ bytesOf (eventOf event (now (operations .entry))) ⌝ }
-{
-    match event {
-        Event::Create { .. } => CREATE_BYTES,
-        Event::Operate { .. } => OPERATE_BYTES + operations.len(),
-        Event::SetValue { .. } => SET_VALUE_BYTES,
-        Event::Remove { .. } => REMOVE_BYTES,
-        Event::Signal { .. } => SIGNAL_BYTES,
-        Event::Exit { .. } => EXIT_BYTES,
-        Event::Query { .. } => QUERY_BYTES,
     }
 }

@@ -2,15 +2,14 @@
 //
 // specs/ says what a file means, in the steps fields, table, bodies, whole. `code` tells a good file from a bad one; a good
 // one's bodies are then read in place, from the end of the table on: `event_at` and `operations_at` read one, and its
-// `bytes_of` lead to the next. proofs/Walk.antt has what such a walk goes by. What is public here asks nothing of its caller.
+// `size_at` leads to the next. proofs/Walk.antt has what such a walk goes by. What is public here asks nothing of its caller.
 mod bodies;
 mod fields;
-mod sizes;
 mod table;
 
-pub use bodies::bytes_of;
 pub use bodies::event_at;
 pub use bodies::operations_at;
+pub use bodies::size_at;
 pub use table::ENTRY_BYTES;
 pub use table::HEAD_BYTES;
 pub use table::code;

@@ -1,9 +1,4 @@
--- Laws that the proofs of the events cite.
+-- Laws that several proofs cite. Those of one event alone stand below its proof.
 pub mod EventLaws
-pub mod SettingLaws
-pub mod ExitingLaws
-pub mod OperatingLaws
 pub mod SlotLaws
-pub mod SignalLaws
 pub mod QueryLaws
-pub mod RunningLaws

@@ -1,5 +1,6 @@
 -- What an event leaves and answers: the host, the list of wakings, and what it tells.
 use Prim.Native.Nat.{ℕ}
+use mathlib.Core.Bool.{cond}
 use mathlib.Core.List.{List}
 use lib.ListN.{length}
 use lib.IntN.{ℤ}
@@ -8,7 +9,7 @@ use Rattle.model.specs.declared.Told.{Told}
 use Rattle.model.specs.declared.Queried.{Queried}
 use Rattle.model.specs.declared.Reply.{Reply}
 use Rattle.model.specs.declared.Reply.the-variants as reply
-use Rattle.model.specs.Events.{Event, create, operate, setValue, remove, signal, exit, query, Answer, Result}
+use Rattle.model.specs.Events.{Event, isQuery, Answer, Result}
 use Rattle.host.specs.Holding.{Host, hostOf, hostIn}
 use Rattle.wakings.specs.Wakings.{wakingsIn, listOf}
 
@@ -49,13 +50,7 @@ queriedOf a =
 
 -- "an answer is all that an event returns beside state, looks and wakings": what a query shows, and what any other event tells
 abbrev pub replyOf : Event → Result → Reply
-replyOf (create count read alter) r = reply.Told (toldOf r)
-replyOf (operate p i bytes) r = reply.Told (toldOf r)
-replyOf (setValue i n v) r = reply.Told (toldOf r)
-replyOf (remove i) r = reply.Told (toldOf r)
-replyOf (signal p) r = reply.Told (toldOf r)
-replyOf (exit p) r = reply.Told (toldOf r)
-replyOf (query i n) r = reply.Seen (queriedOf (r .answer))
+replyOf e r = cond (isQuery e) (reply.Seen (queriedOf (r .answer))) (reply.Told (toldOf r))
 
 pub record Replied : Type 0 where
   pub host : Host

@@ -6,8 +6,12 @@
 // event. Create, remove, signal and query wake nobody by a rule; operate, set value and exit go by the engine they are
 // handed. `run` does any of them.
 mod events;
-mod running;
 
+ghost use mathlib.Core.Path.{_≡_};
+ghost use Rattle.model.specs.Waking.{waker};
+ghost use Rattle.model.specs.Events.{event as eventIn, eventOf};
+ghost use Rattle.host.specs.Holding.{Held, hostIn, stateIn};
+ghost use Rattle.service.specs.After.{repliedIn, repliedOf};
 pub use events::create::create;
 pub use events::exit::exit;
 pub use events::operate::operate;
@@ -15,4 +19,45 @@ pub use events::query::query;
 pub use events::remove::remove;
 pub use events::set_value::set_value;
 pub use events::signal::signal;
-pub use running::run;
+use host::HOST_BYTES;
+use model::ALL_ADJUSTMENTS;
+use model::Engine;
+use model::Event;
+use model::Reply;
+use model::WAKING_BYTES;
+use wakings::clear;
+
+// Any event, told apart once. The bytes of an operate's operations stand beside it.
+pub fn run(
+    host: &mut [u8; HOST_BYTES],
+    adjustments: &mut [i16; ALL_ADJUSTMENTS],
+    list: &mut [u8; WAKING_BYTES],
+    engine: Engine,
+    event: Event,
+    bytes: &[u8],
+) -> Reply
+    requires { ⌜ Held (hostIn (now host) (now adjustments)) ⌝ }
+    ensures { λ r. ⌜ repliedIn (now (host .exit)) (now (adjustments .exit)) (now (list .exit)) r ≡ repliedOf (eventOf event (now (bytes .entry))) (eventIn (waker engine) (stateIn (hostIn (now (host .entry)) (now (adjustments .entry)))) (eventOf event (now (bytes .entry)))) ⌝ }
+{
+    match event {
+        Event::Create { count, read, alter } => {
+            Reply::Told(create(host, adjustments, list, count, read, alter))
+        }
+        Event::Operate {
+            process,
+            identifier,
+        } => Reply::Told(operate(host, adjustments, list, engine, process, identifier, bytes)),
+        Event::SetValue {
+            identifier,
+            number,
+            value,
+        } => Reply::Told(set_value(host, adjustments, list, engine, identifier, number, value)),
+        Event::Remove { identifier } => Reply::Told(remove(host, adjustments, list, identifier)),
+        Event::Signal { process } => Reply::Told(signal(host, adjustments, list, process)),
+        Event::Exit { process } => Reply::Told(exit(host, adjustments, list, engine, process)),
+        Event::Query { identifier, number } => {
+            clear(list);
+            Reply::Seen(query(&*host, &*adjustments, identifier, number))
+        }
+    }
+}

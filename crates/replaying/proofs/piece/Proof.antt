@@ -1,18 +1,18 @@
 -- `replaying::piece` meets its contract. The loop's invariant: what the definition gives from here is what it gives from the
 -- start.
 use Prim.Native.Nat.{ℕ, _+_, _<_, _^_}
-use mathlib.Core.Path.{_≡_, ap}
+use mathlib.Core.Path.{_≡_, ap, _∙_}
 use mathlib.Core.Bool.{true}
 use mathlib.Core.List.{List}
 use native.Mathlib.Omega.{arith}
 use borrow.Author.Needs.{needs}
+use Rattle.model.specs.Events.{eventOf}
 use Rattle.host.specs.Holding.{Held, hostIn}
 use Rattle.runfile.specs.Body.{nextAt}
-use Rattle.runfile.proofs.Walk.{Body, event-read, size-read}
 use Rattle.lines.specs.Buffer.{hasRoom}
 use Rattle.lines.proofs.Writing.{room-yes, room-no}
 use Rattle.replaying.specs.Replay.{Stage}
-use Rattle.replaying.proofs.Turns.{stage, ready, next-body}
+use Rattle.replaying.proofs.Turns.{stage, ready, next-inside}
 use Rattle.replaying.proofs.Replies.{Turned, turned}
 use Rattle.replaying.proofs.Going.{Going, begins, goes-on, ends-over, ends-full}
 use Rattle.replaying.proofs.piece.Statement.{statement}
@@ -25,7 +25,7 @@ Inv-loop host₀ adjustments₀ engine file out₀ wakings₀ position₀ left�
 abbrev μ-loop : tie.MeasureT-loop
 μ-loop host₀ adjustments₀ engine file out₀ wakings₀ position₀ left₀ at₀ next₀ host adjustments out wakings position left at next = left
 
--- ---- in a turn: the file, the stage, the body at the next position, and room for what is read and written
+-- ---- in a turn: the file, the stage, and room for what is read and written
 
 abbrev In : Type 0
 In = tie.In-loop Inv-loop μ-loop
@@ -39,14 +39,11 @@ file-of c = start c .args .file .now
 abbrev here : In → Stage
 here c = let l = c .before .loop in stage (hostIn (l .host) (l .adjustments)) (l .position) (l .left) (l .at)
 
-body : (c : In) → Body (file-of c) (c .before .loop .at)
-body c = next-body (c .before .loop .inv .came) (c .loop-test .taken)
-
 held : (c : In) → Held (here c .host)
 held c = ready (c .before .loop .inv .came) .held
 
 fit : (c : In) → nextAt (file-of c) (c .before .loop .at) < 2 ^ 64
-fit c = omega (arith, body c .inside, start c .good)
+fit c = omega (arith, next-inside (c .before .loop .inv .came) (c .loop-test .taken), start c .good)
 
 -- there is room for the line
 room : (c : tie.Else1 Inv-loop μ-loop) → let l = c .before .before .before .loop in hasRoom (l .out) (l .next) ≡ true
@@ -60,14 +57,17 @@ loop-holds c = let s = c .before .before in begins (s .args .engine) (s .args .f
 has-room-requires : tie.Need-has-room-requires Inv-loop μ-loop
 has-room-requires c κs = search needs
 
-event-at-requires : tie.Need-event-at-requires Inv-loop μ-loop
-event-at-requires c κs = search needs
-
 operations-at-requires : tie.Need-operations-at-requires Inv-loop μ-loop
 operations-at-requires c κs = search needs
 
+size-at-requires : tie.Need-size-at-requires Inv-loop μ-loop
+size-at-requires c κs = search needs
+
+event-at-requires : tie.Need-event-at-requires Inv-loop μ-loop
+event-at-requires c κs = search needs
+
 run-requires : tie.Need-run-requires Inv-loop μ-loop
-run-requires c κs = held (c .before .before .before .before .before .before .before)
+run-requires c κs = held (c .before .before .before .before .before .before .before .before)
 
 reply-line-requires : tie.Need-reply-line-requires Inv-loop μ-loop
 reply-line-requires c κs = search needs
@@ -83,11 +83,14 @@ written c = c .before .before
 abbrev ran : Behind → tie.After-run Inv-loop μ-loop
 ran c = written c .before .before .before
 
-abbrev read : Behind → tie.After-operations-at Inv-loop μ-loop
+abbrev read : Behind → tie.After-event-at Inv-loop μ-loop
 read c = ran c .before .before .before .before
 
+abbrev sized : Behind → tie.After-size-at Inv-loop μ-loop
+sized c = read c .before
+
 abbrev roomed : Behind → tie.Else1 Inv-loop μ-loop
-roomed c = read c .before .before
+roomed c = sized c .before .before
 
 abbrev inner : Behind → In
 inner c = roomed c .before .before
@@ -98,39 +101,31 @@ did : (c : Behind) → let i = inner c in let l = i .before .loop in let r = ran
 did c =
     let i = inner c in
     let l = i .before .loop in
-    let o = read c in
     let w = written c .reply-line in
-    let e = event-read (file-of i) (l .at) (o .before .event-at .result) (o .operations-at .ensures) (o .before .event-at .ensures) in
+    let r = read c .event-at in
+    let e = ap (eventOf (r .result)) (sized c .before .operations-at .ensures) ∙ r .ensures in
     turned (start i .args .engine) (file-of i) (here i) (l .out) (l .next) e (ran c .run .ensures) (w .ensures .0) (w .ensures .1)
 
 -- the bytes of its body
-bytes : (c : tie.After-bytes-of Inv-loop μ-loop) → let i = inner (c .before) in i .before .loop .at + c .bytes-of .result ≡ nextAt (file-of i) (i .before .loop .at)
-bytes c =
-    let i = inner (c .before) in
-    let l = i .before .loop in
-    let o = read (c .before) in
-    ap (λ n. l .at + n) (size-read (file-of i) (l .at) (o .before .event-at .result) (o .operations-at .ensures) (o .before .event-at .ensures) (body i) (c .bytes-of .ensures))
-
-bytes-of-requires : tie.Need-bytes-of-requires Inv-loop μ-loop
-bytes-of-requires c κs = search needs
+bytes : (c : Behind) → let i = inner c in i .before .loop .at + sized c .size-at .result ≡ nextAt (file-of i) (i .before .loop .at)
+bytes c = let l = inner c .before .loop in ap (λ n. l .at + n) (sized c .size-at .ensures)
 
 add-at : tie.Need-add-at Inv-loop μ-loop
-add-at c = omega (arith, bytes c, fit (inner (c .before)))
+add-at c = omega (arith, bytes c, fit (inner c))
 
 add-position : tie.Need-add-position Inv-loop μ-loop
-add-position c = omega (arith, ready (inner (c .before) .before .loop .inv .came) .few)
+add-position c = omega (arith, ready (inner c .before .loop .inv .came) .few)
 
 sub-left : tie.Need-sub-left Inv-loop μ-loop
-sub-left c = omega (arith, inner (c .before) .loop-test .taken)
+sub-left c = omega (arith, inner c .loop-test .taken)
 
 loop-less : tie.Need-loop-less Inv-loop μ-loop
-loop-less c = omega (arith, inner (c .before) .loop-test .taken)
+loop-less c = omega (arith, inner c .loop-test .taken)
 
 loop-again : tie.Need-loop-again Inv-loop μ-loop
 loop-again c =
-    let b = c .before in
-    let i = inner b in
-    goes-on (i .before .loop .inv) (i .loop-test .taken) (room (roomed b)) (written b .reply-line .kept .0) (bytes c) (did b)
+    let i = inner c in
+    goes-on (i .before .loop .inv) (i .loop-test .taken) (room (roomed c)) (written c .reply-line .kept .0) (bytes c) (did c)
 
 same-length : tie.Need-same-length Inv-loop μ-loop
 same-length c = c .before .loop .inv .size
@@ -155,11 +150,11 @@ piece-spec =
     μ-loop
     loop-holds
     has-room-requires
-    event-at-requires
     operations-at-requires
+    size-at-requires
+    event-at-requires
     run-requires
     reply-line-requires
-    bytes-of-requires
     add-at
     add-position
     sub-left

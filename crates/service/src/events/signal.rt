@@ -24,7 +24,7 @@ pub fn signal(
     requires { ⌜ Held (hostIn (now host) (now adjustments)) ⌝ }
     ensures { λ r. ⌜ afterIn (now (host .exit)) (now (adjustments .exit)) (now (wakings .exit)) r ≡ afterOf (doSignal (stateIn (hostIn (now (host .entry)) (now (adjustments .entry)))) process) ⌝ }
 {
-    clear(&mut *wakings);
+    clear(wakings);
     let code = check_process(process);
     if code != 0 {
         return quiet(code, 0);

@@ -1,8 +1,10 @@
 -- `runfile::bodies::operations_at` meets its contract.
-use mathlib.Core.Path.{sym, _∙_}
-use Rattle.runfile.specs.Body.{operationsAt}
-use Rattle.runfile.proofs.ByKind.{body, handed-in, handed-operations, handed-nothing, handed-past}
+use mathlib.Core.Path.{_∙_}
+use lib.ListN.{drop-of-length-le}
 use borrow.Author.Needs.{needs}
+use borrow.Author.Tests.{eq-eqb, ne-eqb}
+use Rattle.runfile.specs.Body.{operationsIn, handedIn}
+use Rattle.runfile.proofs.Bytes.{to-end}
 use Rattle.runfile.proofs.bodies.operations_at.Statement.{statement}
 use Rattle.runfile.proofs.bodies.operations_at.Tie as tie
 
@@ -10,7 +12,8 @@ first-requires : tie.Need-first-requires
 first-requires c κs = search needs
 
 returns : tie.Need-returns
-returns c = let a = c .before .before .before .args in c .first .ensures ∙ sym (handed-past (a .file .now) (a .at) (c .before .if1 .taken))
+unfolding handedIn
+returns c = rw (drop-of-length-le (c .before .before .before .args .file .now) (c .before .if1 .taken)) (c .first .ensures)
 
 sub-body : tie.Need-sub-body
 sub-body c = search needs
@@ -23,6 +26,9 @@ part-body-end c = search needs
 
 shared-slice-read-if2 : tie.Need-shared-slice-read-if2
 shared-slice-read-if2 c = search needs
+
+cast-behind : tie.Need-cast-behind
+cast-behind c = search needs
 
 behind-requires : tie.Need-behind-requires
 behind-requires c κs = search needs
@@ -43,16 +49,17 @@ first-requires-3 : tie.Need-first-requires-3
 first-requires-3 c κs = search needs
 
 returns-2 : tie.Need-returns-2
-unfolding operationsAt
+unfolding operationsIn handedIn
 returns-2 c =
     let a = c .before .before .before .before .before .before .before .before .args in
-    rw (← handed-in (a .file .now) (a .at), handed-operations (body (a .file .now) (a .at)) 0 (c .before .before .before .if2 .taken))
+    rw (← to-end (a .file .now) (a .at), eq-eqb _ _ (c .before .before .before .if2 .taken))
     (c .first2 .ensures ∙ rw (c .before .before .behind .ensures, c .before .number .ensures))
 
 returns-3 : tie.Need-returns-3
+unfolding handedIn
 returns-3 c =
     let a = c .before .before .before .before .before .before .args in
-    rw (← handed-in (a .file .now) (a .at), handed-nothing (body (a .file .now) (a .at)) 0 (c .before .if2 .left)) (c .first3 .ensures)
+    rw (← to-end (a .file .now) (a .at), ne-eqb _ _ (c .before .if2 .left)) (c .first3 .ensures)
 
 pub operations-at-spec : {M : Type 1} → statement M
 operations-at-spec =
@@ -64,6 +71,7 @@ operations-at-spec =
     part-body-start
     part-body-end
     shared-slice-read-if2
+    cast-behind
     behind-requires
     number-requires
     cast-first

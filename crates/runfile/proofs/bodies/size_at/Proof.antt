@@ -1,15 +1,15 @@
 -- `runfile::bodies::size_at` meets its contract: past the end the kind reads as 0, which is none.
 use mathlib.Core.Path.{_∙_, ap}
+use lib.ListN.{drop-of-length-le}
 use borrow.Author.Needs.{needs}
-use Rattle.runfile.specs.Body.{sizeOf, sizeAt}
-use Rattle.runfile.proofs.Bytes.{past}
-use Rattle.runfile.proofs.ByKind.{size-in}
+use Rattle.runfile.specs.Body.{sizeOf, sizeIn}
+use Rattle.runfile.proofs.Bytes.{to-end}
 use Rattle.runfile.proofs.bodies.size_at.Statement.{statement}
 use Rattle.runfile.proofs.bodies.size_at.Tie as tie
 
 returns : tie.Need-returns
-unfolding sizeAt sizeOf
-returns c = rw (past (c .before .before .args .file .now) (c .before .before .args .at) (c .if1 .taken))
+unfolding sizeIn sizeOf
+returns c = rw (drop-of-length-le (c .before .before .args .file .now) (c .if1 .taken))
 
 sub-body : tie.Need-sub-body
 sub-body c = search needs
@@ -30,10 +30,10 @@ size-of-requires : tie.Need-size-of-requires
 size-of-requires c κs = search needs
 
 returns-2 : tie.Need-returns-2
-unfolding sizeAt
+unfolding sizeIn
 returns-2 c =
     let a = c .before .before .before .before .before .before .args in
-    c .size-of .ensures ∙ ap (sizeOf _) (c .before .number .ensures) ∙ size-in (a .file .now) (a .at)
+    c .size-of .ensures ∙ ap (sizeOf _) (c .before .number .ensures) ∙ ap sizeIn (to-end (a .file .now) (a .at))
 
 pub size-at-spec : {M : Type 1} → statement M
 size-at-spec =

@@ -1,4 +1,5 @@
 -- `service::events::exit::exit` meets its contract.
+mod Laws
 use mathlib.Core.Path.{_≡_, sym, ap, subst, _∙_}
 use lib.ListN.{length}
 use Rattle.model.specs.Checks.{checkProcess}
@@ -8,7 +9,7 @@ use Rattle.host.specs.Parts.{Row}
 use Rattle.host.specs.Holding.{Host, hostIn, tableIn}
 use Rattle.service_waking.specs.Lent.{Lent, Ready, treatedFrom}
 use Rattle.service.proofs.EventLaws.{held-invariant, held-seated, refused-after}
-use Rattle.service.proofs.ExitingLaws.{exit-process, exit-lent, exit-touched, exit-ready, exit-after, touched-size}
+use Rattle.service.proofs.events.exit.exit.Proof.Laws.{exit-process, exit-lent, exit-touched, exit-ready, exit-after, touched-size}
 use borrow.Author.Needs.{needs}
 use Rattle.service.proofs.events.exit.exit.Statement.{statement}
 use Rattle.service.proofs.events.exit.exit.Tie as tie

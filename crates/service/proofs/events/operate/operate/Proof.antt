@@ -1,4 +1,5 @@
 -- `service::events::operate::operate` meets its contract.
+mod Laws
 use Prim.Native.Nat.{_<_}
 use native.Mathlib.Omega.{arith}
 use mathlib.Core.Path.{_≡_, refl, sym, _∙_}
@@ -17,7 +18,7 @@ use Rattle.service_table.proofs.WrittenLaws.{sized-good, written-applied}
 use Rattle.service_waking.specs.Lent.{JudgedAs, treated}
 use Rattle.service_waking.proofs.LookLaws.{values-in, undo-read, judged-as}
 use Rattle.service.proofs.EventLaws.{held-invariant, held-lined, held-seated, refused-after, begun, begun-ready}
-use Rattle.service.proofs.OperatingLaws.{call-process, call-numbered, call-room, call-awake, call-few, done-lent, done-ready, done-after, sleep-after, again-after, range-after}
+use Rattle.service.proofs.events.operate.operate.Proof.Laws.{call-process, call-numbered, call-room, call-awake, call-few, done-lent, done-ready, done-after, sleep-after, again-after, range-after}
 use borrow.Author.Needs.{needs}
 use Rattle.service.proofs.events.operate.operate.Statement.{statement}
 use Rattle.service.proofs.events.operate.operate.Tie as tie

@@ -1,4 +1,5 @@
 -- `service::events::set_value::set_value` meets its contract.
+mod Laws
 use Prim.Native.Nat.{_<_}
 use native.Mathlib.Omega.{arith}
 use mathlib.Core.Path.{_≡_, sym, ap, _∙_}
@@ -13,7 +14,7 @@ use Rattle.service_checks.proofs.FoundSets.{slot-within}
 use Rattle.service_waking.specs.Lent.{treated}
 use Rattle.service_waking.proofs.Marking.{shifted}
 use Rattle.service.proofs.EventLaws.{refused-after, begun, begun-ready}
-use Rattle.service.proofs.SettingLaws.{value-kept, set-number, set-lent, set-ready, set-after}
+use Rattle.service.proofs.events.set_value.set_value.Proof.Laws.{value-kept, set-number, set-lent, set-ready, set-after}
 use borrow.Author.Needs.{needs}
 use Rattle.service.proofs.events.set_value.set_value.Statement.{statement}
 use Rattle.service.proofs.events.set_value.set_value.Tie as tie

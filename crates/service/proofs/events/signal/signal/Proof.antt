@@ -1,11 +1,12 @@
 -- `service::events::signal::signal` meets its contract.
+mod Laws
 use mathlib.Core.Path.{_≡_, sym, _∙_}
 use borrow.Author.Tests.{not-true, not-false}
 use Rattle.model.specs.Checks.{checkProcess}
 use Rattle.model.specs.Events.{doSignal}
 use Rattle.host.specs.Holding.{Host, hostIn}
 use Rattle.service.proofs.EventLaws.{held-seated, refused-after}
-use Rattle.service.proofs.SignalLaws.{signal-awake, signal-asleep}
+use Rattle.service.proofs.events.signal.signal.Proof.Laws.{signal-awake, signal-asleep}
 use borrow.Author.Needs.{needs}
 use Rattle.service.proofs.events.signal.signal.Statement.{statement}
 use Rattle.service.proofs.events.signal.signal.Tie as tie

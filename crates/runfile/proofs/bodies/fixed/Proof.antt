@@ -1,8 +1,8 @@
--- `runfile::sizes::fixed` meets its contract, kind by kind.
+-- `runfile::bodies::fixed` meets its contract, kind by kind.
 use borrow.Author.Tests.{ne-eqb}
 use Rattle.runfile.specs.Body.{sizeOf}
-use Rattle.runfile.proofs.sizes.fixed.Statement.{statement}
-use Rattle.runfile.proofs.sizes.fixed.Tie as tie
+use Rattle.runfile.proofs.bodies.fixed.Statement.{statement}
+use Rattle.runfile.proofs.bodies.fixed.Tie as tie
 
 returns : tie.Need-returns
 unfolding sizeOf

@@ -1,7 +1,7 @@
--- `runfile::sizes::each` meets its contract.
+-- `runfile::bodies::each` meets its contract.
 use borrow.Author.Tests.{eq-eqb, ne-eqb}
-use Rattle.runfile.proofs.sizes.each.Statement.{statement}
-use Rattle.runfile.proofs.sizes.each.Tie as tie
+use Rattle.runfile.proofs.bodies.each.Statement.{statement}
+use Rattle.runfile.proofs.bodies.each.Tie as tie
 
 returns : tie.Need-returns
 returns c = rw (eq-eqb _ _ (c .if1 .taken))
