@@ -166,23 +166,19 @@ module _ (q : List Sleeper) (f : Queued q) (i : ℕ) (h : i < length q) where
       rw (entry-is (sleeper .process) (room-at .process))
       (by-changed g q (sleeper .process) (room-at .process) (room-at .last) 0 (without q i) (of-none 0 g (sleeper .process) (without q i) others) (λ j n. sym (of-without 0 g j q i n)))
 
-  arrays-out : sets (blocksFrom processes 1 q) (arrayBytes * entry (getD q i noSleeper .process)) (replicate (length (getD q i noSleeper .array)) 0) ≡ blocksFrom processes 1 (without q i)
+  arrays-out : sets (blocksFrom processes 1 q) (arrayBytes * entry (getD q i noSleeper .process)) (replicate arrayBytes 0) ≡ blocksFrom processes 1 (without q i)
   arrays-out =
       let p = sleeper .process in
-      let n = length (sleeper .array) in
-      let fits : arrayBytes * (p - 1) + n ≤ length (blocksFrom processes 1 q) = omega (arith, length-arrays q, room-at .process, room-at .last, room-at .short) in
-      let e : length (arrayOf p q) ≡ n = ap length array-own in
+      let fits : arrayBytes * (p - 1) + arrayBytes ≤ length (blocksFrom processes 1 q) = omega (arith, length-arrays q, room-at .process, room-at .last) in
       rw (entry-is p (room-at .process))
-      (sets-paste (replicate n 0) (blocksFrom processes 1 q) (arrayBytes * (p - 1)) n (length-replicate n 0) fits
-      ∙ subst (λ (m : ℕ). paste (blocksFrom processes 1 q) (arrayBytes * (p - 1)) (replicate m 0) m ≡ blocksFrom processes 1 (without q i)) e
-      (arrays-cleared q p (room-at .process) (room-at .last) (without q i) (omega (arith, e, room-at .short)) (of-none [] (λ (s : Sleeper). s .array) p (without q i) others) (λ j m. sym (of-without [] (λ (s : Sleeper). s .array) j q i m))))
+      (sets-paste (replicate arrayBytes 0) (blocksFrom processes 1 q) (arrayBytes * (p - 1)) arrayBytes (length-replicate {A = ℕ} arrayBytes 0) fits
+      ∙ (arrays-cleared q p (room-at .process) (room-at .last) (without q i) (of-none [] (λ (s : Sleeper). s .array) p (without q i) others) (λ j m. sym (of-without [] (λ (s : Sleeper). s .array) j q i m))))
 
   -- the writes that take it out
   abbrev pub emptied : Row → Row
   emptied r =
       let p = getD q i noSleeper .process in
-      let n = length (getD q i noSleeper .array) in
-      put (with (withEntry kept p (λ (k : Kept). 0) (with r arrays (sets (r arrays) (arrayBytes * entry p) (take arrayBytes (replicate n 0))))) order (without (r order) i ++ 0 ∷ [])) asleep 0 (length q - 1)
+      put (with (withEntry kept p (λ (k : Kept). 0) (with r arrays (sets (r arrays) (arrayBytes * entry p) (replicate arrayBytes 0)))) order (without (r order) i ++ 0 ∷ [])) asleep 0 (length q - 1)
 
   pub taken : (r : Row) → emptied (withQueue r q) ≡ withQueue r (without q i)
   taken r =
@@ -191,8 +187,7 @@ module _ (q : List Sleeper) (f : Queued q) (i : ℕ) (h : i < length q) where
       (ap (λ (n : ℕ). n ∷ []) (omega (arith, length-without q i h)))
       (order-without q i h (f .few))
       (map-each kept (λ k. by-out (k .of)))
-      (ap (λ (l : List ℕ). sets (blocksFrom processes 1 q) (arrayBytes * entry (sleeper .process)) l)
-      (take-all arrayBytes (replicate (length (sleeper .array)) 0) (omega (arith, length-replicate {A = ℕ} (length (sleeper .array)) 0, room-at .short))) ∙ arrays-out))
+      arrays-out)
 
 -- ---- one that joins
 

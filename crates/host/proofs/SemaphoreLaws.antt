@@ -2,7 +2,7 @@
 use Prim.Native.Nat.{ℕ, zero, suc, _+_, _*_, _-_, _%_, _^_, _≤_, _<_}
 use native.Mathlib.Nat.{not-suc-le-zero, le-of-suc-le-suc, add-zero, sub-zero, mul-add, one-mul, mod-eq-of-lt}
 use native.Mathlib.Omega.{arith}
-use mathlib.Core.Path.{_≡_, refl, sym, ap, ap₂, _∙_}
+use mathlib.Core.Path.{_≡_, refl, sym, ap, ap₂, subst, _∙_}
 use mathlib.Core.Logic.{_≢_}
 use mathlib.Core.Bool.{Bool, true, false, not, cond}
 use mathlib.Core.List.{List, _∷_}
@@ -106,6 +106,10 @@ module _ (p : Part) (n at mask x : ℕ) (h₀ : List ℕ) where
 
         here : rowIn (set h there v) p ≡ new b
         here = ap (λ (r : Row). r p) one ∙ with-here (rowIn h) p (new b)
+
+    -- .. nothing stored where it is not in the mask
+    pub mask-kept : Masking p n at mask x h₀ h j → j < n → hasBit mask (2 ^ j) ≡ false → Masking p n at mask x h₀ h (j + 1)
+    mask-kept m l t = subst (λ (k : List ℕ). Masking p n at mask x h₀ k (j + 1)) (set-getD h there 0) (mask-more (getD h there 0) false m l t refl)
 
   pub mask-all : (h : List ℕ) (j : ℕ) → Masking p n at mask x h₀ h j → n ≤ j → rowIn h ≡ with (rowIn h₀) p (masked mask x n at (rowIn h₀ p))
   unfolding maskedFrom

@@ -148,15 +148,10 @@ module _ (h : List ℕ) (p i : ℕ) (e : i ≡ entry p) where
   unfolding arrayIn
   array-none l = ap (λ (n : ℕ). take n (take arrayBytes (drop (arrayBytes * entry p) (rowIn h arrays)))) (sym (read-beyond sizes (entry p) h (omega (arith, e))))
 
--- zeros, as many as there is room for
-pub length-zeros : (m n : ℕ) → length {A = ℕ} (take m (replicate n 0)) ≡ min m n
-length-zeros m n = length-take m (replicate n 0) ∙ ap (λ (k : ℕ). min m k) (length-replicate n 0)
-
-pub zeros-at : (m n j : ℕ) → _≡_ {A = ℕ} 0 (getD (take m (replicate n 0)) j 0)
-zeros-at zero n j = refl
-zeros-at (suc m) zero j = refl
-zeros-at (suc m) (suc n) zero = refl
-zeros-at (suc m) (suc n) (suc j) = zeros-at m n j
+pub zeros-at : (n j : ℕ) → _≡_ {A = ℕ} 0 (getD (replicate n 0) j 0)
+zeros-at zero j = refl
+zeros-at (suc n) zero = refl
+zeros-at (suc n) (suc j) = zeros-at n j
 
 -- ---- where adjustments begin
 

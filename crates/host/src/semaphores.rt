@@ -83,9 +83,10 @@ pub fn put_lasts(host: &mut [u8; HOST_BYTES], slot: usize, mask: u8, process: u8
         let all: &mut [u8] = host;
         let start = LASTS_AT + slot * SEMAPHORES;
         for j in 0..SEMAPHORES {
-            let old = all[start + j];
             let on = mask & (1u8 << j);
-            all[start + j] = if on != 0 { process } else { old };
+            if on != 0 {
+                all[start + j] = process;
+            }
         }
     }
 }

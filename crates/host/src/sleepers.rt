@@ -155,16 +155,15 @@ pub fn store_array(host: &mut [u8; HOST_BYTES], process: u8, bytes: &[u8])
     }
 }
 
-// The first bytes of a process's array are zero.
-pub fn clear_array(host: &mut [u8; HOST_BYTES], process: u8, size: usize)
-    ensures { λ _. ⌜ rowIn (now (host .exit)) ≡ with (rowIn (now (host .entry))) arrays (sets (rowIn (now (host .entry)) arrays) (arrayBytes * entry process) (take arrayBytes (replicate size 0))) ⌝ }
+// The bytes of a process's array are zero.
+pub fn clear_array(host: &mut [u8; HOST_BYTES], process: u8)
+    ensures { λ _. ⌜ rowIn (now (host .exit)) ≡ with (rowIn (now (host .entry))) arrays (sets (rowIn (now (host .entry)) arrays) (arrayBytes * entry process) (replicate arrayBytes 0)) ⌝ }
 {
     let all: &mut [u8] = host;
     let i = entry_of(process);
     if i < PROCESSES {
         let from = ARRAYS_AT + ARRAY_BYTES * i;
-        let n = fitting(size);
-        for j in 0..n {
+        for j in 0..ARRAY_BYTES {
             all[from + j] = 0;
         }
     }

@@ -52,21 +52,17 @@ module _ {r : Row} (k : Lined r) where
   slot-is i h e =
       ap₂ (λ (l : List ℕ) (p : ℕ). getD l (entry p) 0) (part-is sleepsAt) (e ∙ process-is i h) ∙ slot-read queue (k .fits) i h r
 
-  size-is : (i : ℕ) → i < length (queueIn r) → {p : ℕ} → p ≡ getD (queueIn r) i noSleeper .process → getD (r sizes) (entry p) 0 ≡ length (getD (queueIn r) i noSleeper .array)
-  size-is i h e =
-      ap₂ (λ (l : List ℕ) (p : ℕ). getD l (entry p) 0) (part-is sizes) e ∙ size-read queue (k .fits) i h r
-
 -- ---- one is taken out: what its process has is cleared, and the order moves up
 
-abbrev clearedOf : ℕ → ℕ → Row → Row
-clearedOf p size r = withEntry kept p (λ (k : Kept). 0) (with r arrays (sets (r arrays) (arrayBytes * entry p) (take arrayBytes (replicate size 0))))
+abbrev clearedOf : ℕ → Row → Row
+clearedOf p r = withEntry kept p (λ (k : Kept). 0) (with r arrays (sets (r arrays) (arrayBytes * entry p) (replicate arrayBytes 0)))
 
 abbrev shortened : ℕ → ℕ → Row → Row
 shortened at last r = put (with r order (movedUp (r order) at last)) asleep 0 last
 
-module _ {r r₁ r₂ : Row} {p size : ℕ} (k : Lined r) (at : ℕ) (h : at < length (queueIn r)) (ep : p ≡ getD (r order) at 0) (es : size ≡ getD (r sizes) (entry p) 0)
-    (e₁ : r₁ ≡ with r arrays (sets (r arrays) (arrayBytes * entry p) (take arrayBytes (replicate size 0)))) (e₂ : r₂ ≡ withEntry kept p (λ (k : Kept). 0) r₁) where
-  cleared : r₂ ≡ clearedOf p size r
+module _ {r r₁ r₂ : Row} {p : ℕ} (k : Lined r) (at : ℕ) (h : at < length (queueIn r)) (ep : p ≡ getD (r order) at 0)
+    (e₁ : r₁ ≡ with r arrays (sets (r arrays) (arrayBytes * entry p) (replicate arrayBytes 0))) (e₂ : r₂ ≡ withEntry kept p (λ (k : Kept). 0) r₁) where
+  cleared : r₂ ≡ clearedOf p r
   cleared = e₂ ∙ ap (withEntry kept p (λ (k : Kept). 0)) e₁
 
   pub still-asleep : getD (r₂ asleep) 0 0 ≡ length (queueIn r)
@@ -82,11 +78,10 @@ module _ {r r₁ r₂ : Row} {p size : ℕ} (k : Lined r) (at : ℕ) (h : at < l
       let q : List Sleeper = queueIn r in
       let s : Sleeper = getD q at noSleeper in
       let here : p ≡ s .process = ep ∙ process-is k at h in
-      let long : size ≡ length (s .array) = es ∙ size-is k at h here in
       let few : last ≡ length q - 1 = el ∙ ap (λ (n : ℕ). n - 1) still-asleep in
       e₄ ∙ ap (λ (x : Row). put x asleep 0 last) e₃
-      ∙ ap₂ (λ (x : Row) (n : ℕ). shortened at n x) (cleared ∙ ap₂ (λ (a b : ℕ). clearedOf a b r) here long) few
-      ∙ ap (λ (l : List ℕ). put (with (clearedOf (s .process) (length (s .array)) r) order l) asleep 0 (length q - 1)) moved-out
+      ∙ ap₂ (λ (x : Row) (n : ℕ). shortened at n x) (cleared ∙ ap (λ (n : ℕ). clearedOf n r) here) few
+      ∙ ap (λ (l : List ℕ). put (with (clearedOf (s .process) r) order l) asleep 0 (length q - 1)) moved-out
       ∙ ap (emptied q (k .fits) at h) (k .holds)
       ∙ taken q (k .fits) at h r
 

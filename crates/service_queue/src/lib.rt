@@ -76,8 +76,7 @@ pub fn take_out(host: &mut [u8; HOST_BYTES], at: usize)
     ensures { λ _. ⌜ rowIn (now (host .exit)) ≡ withQueue (rowIn (now (host .entry))) (without (queueIn (rowIn (now (host .entry)))) at) ⌝ }
 {
     let process = process_at(&*host, at);
-    let size = size_at(&*host, process);
-    clear_array(&mut *host, process, size);
+    clear_array(&mut *host, process);
     put_call(&mut *host, process, 0, 0, 0);
     let last = asleep_of(&*host) - 1;
     move_up(&mut *host, at, last);

@@ -7,7 +7,7 @@ use mathlib.Core.Bool.{true, false}
 use Rattle.model.specs.Limits.{semaphores}
 use Rattle.model.specs.State.{row}
 use Rattle.host.specs.Parts.{lasts}
-use Rattle.host.proofs.SemaphoreLaws.{Masking, mask-none, mask-more, mask-all, mask-beyond, bit-on, bit-off}
+use Rattle.host.proofs.SemaphoreLaws.{Masking, mask-none, mask-more, mask-kept, mask-all, mask-beyond, bit-on, bit-off}
 use Rattle.host.proofs.semaphores.put_lasts.Statement.{statement}
 use Rattle.host.proofs.semaphores.put_lasts.Tie as tie
 
@@ -25,12 +25,6 @@ add-start c = search needs
 
 loop-holds : tie.Need-loop-holds Inv-loop μ-loop
 loop-holds c = mask-none lasts semaphores _ _ _ _ (search needs)
-
-add-old : tie.Need-add-old Inv-loop μ-loop
-add-old c = search needs
-
-slice-read-old : tie.Need-slice-read-old Inv-loop μ-loop
-slice-read-old c = search needs
 
 cast-on : tie.Need-cast-on Inv-loop μ-loop
 cast-on c = search needs
@@ -52,13 +46,14 @@ loop-less c = search needs
 
 loop-again : tie.Need-loop-again Inv-loop μ-loop
 loop-again c =
-    let b = c .before .before in
+    let b = c .before in
     let l = b .before .loop in
     let a = b .before .before .before .before .args in
     let n = b .loop-test .taken in
+    let next = mask-more lasts semaphores (row (a .slot)) (a .mask) (a .process) (a .host .now) refl (omega arith) (omega arith) (l .all) (l .j) in
     ⊎-elim
-    (λ w. mask-more lasts semaphores (row (a .slot)) (a .mask) (a .process) (a .host .now) refl (omega arith) (omega arith) (l .all) (l .j) (c .if2 .all) true (l .inv) n (bit-on (a .mask) (l .j) n (w .0 .taken)) (w .1))
-    (λ w. mask-more lasts semaphores (row (a .slot)) (a .mask) (a .process) (a .host .now) refl (omega arith) (omega arith) (l .all) (l .j) (c .if2 .all) false (l .inv) n (bit-off (a .mask) (l .j) n (w .0 .left)) (w .1))
+    (λ w. rw (w .1) (next (a .process) true (l .inv) n (bit-on (a .mask) (l .j) n (w .0 .taken)) refl))
+    (λ w. rw (w .1) (mask-kept lasts semaphores (row (a .slot)) (a .mask) (a .process) (a .host .now) refl (omega arith) (omega arith) (l .all) (l .j) (l .inv) n (bit-off (a .mask) (l .j) n (w .0 .left))))
     (c .if2 .came)
 
 returns : tie.Need-returns Inv-loop μ-loop
@@ -80,8 +75,6 @@ put-lasts-spec =
     mul-start
     add-start
     loop-holds
-    add-old
-    slice-read-old
     cast-on
     shl-on
     add-all

@@ -2,19 +2,19 @@ use Prim.Native.Nat.{_+_, _-_, _*_}
 use mathlib.Core.Path.{refl}
 use native.Mathlib.Omega.{arith}
 use lib.Dec.{lit<}
-use lib.ListN.{take, replicate}
+use lib.ListN.{replicate}
 use Rattle.model.specs.Limits.{arrayBytes}
 use Rattle.host.specs.Parts.{arrays, place}
-use Rattle.host.proofs.SleeperLaws.{Writing, write-none, write-byte, write-all, write-away, length-zeros, zeros-at}
+use Rattle.host.proofs.SleeperLaws.{Writing, write-none, write-byte, write-all, write-away, zeros-at}
 use borrow.Author.Needs.{needs}
 use Rattle.host.proofs.sleepers.clear_array.Statement.{statement}
 use Rattle.host.proofs.sleepers.clear_array.Tie as tie
 
 abbrev Inv-loop : tie.InvT-loop
-Inv-loop process size all₀ i from n j₀ all j = Writing arrays all₀ (arrayBytes * i) (take arrayBytes (replicate size 0)) all j
+Inv-loop process all₀ i from j₀ all j = Writing arrays all₀ (arrayBytes * i) (replicate arrayBytes 0) all j
 
 abbrev μ-loop : tie.MeasureT-loop
-μ-loop process size all₀ i from n j₀ all j = n - j
+μ-loop process all₀ i from j₀ all j = arrayBytes - j
 
 entry-of-requires : tie.Need-entry-of-requires Inv-loop μ-loop
 entry-of-requires c κs = search needs
@@ -25,11 +25,8 @@ mul-from c = search needs
 add-from : tie.Need-add-from Inv-loop μ-loop
 add-from c = search needs
 
-fitting-requires : tie.Need-fitting-requires Inv-loop μ-loop
-fitting-requires c κs = search needs
-
 loop-holds : tie.Need-loop-holds Inv-loop μ-loop
-loop-holds c = let a = c .before .before .before .before .args in write-none arrays (a .host .now) _ _ (search needs)
+loop-holds c = let a = c .before .before .before .args in write-none arrays (a .host .now) _ _ (search needs)
 
 add-all : tie.Need-add-all Inv-loop μ-loop
 add-all c = search needs
@@ -45,21 +42,18 @@ loop-less c = search needs
 
 loop-again : tie.Need-loop-again Inv-loop μ-loop
 loop-again c =
-    let a = c .before .before .before .before .before .before .args in
-    let e = c .before .before .before .before .entry-of in
+    let e = c .before .before .before .entry-of in
     let l = c .before .loop in
-    let n = length-zeros arrayBytes (a .size) in
-    write-byte arrays (l .inv) 0 (place arrays .at + arrayBytes * e .result) refl (omega (arith, n)) (omega (arith, n)) (zeros-at arrayBytes (a .size) (l .j)) (lit< tt) refl
+    write-byte arrays (l .inv) 0 (place arrays .at + arrayBytes * e .result) refl (omega (arith, c .loop-test .taken)) (omega (arith, c .loop-test .taken)) (zeros-at arrayBytes (l .j)) (lit< tt) refl
 
 returns : tie.Need-returns Inv-loop μ-loop
 returns c =
-    let a = c .before .before .before .before .before .before .args in
-    rw (← c .before .before .before .before .entry-of .ensures) (write-all arrays (c .before .loop .inv) (omega (arith, length-zeros arrayBytes (a .size))))
+    rw (← c .before .before .before .entry-of .ensures) (write-all arrays (c .before .loop .inv) (omega (arith, c .loop-test .left)))
 
 returns-2 : tie.Need-returns-2 Inv-loop μ-loop
 returns-2 c =
     let a = c .before .before .before .args in
-    rw (← c .before .entry-of .ensures) (write-away arrays (a .host .now) (arrayBytes * c .before .entry-of .result) (take arrayBytes (replicate (a .size) 0)) (omega arith))
+    rw (← c .before .entry-of .ensures) (write-away arrays (a .host .now) (arrayBytes * c .before .entry-of .result) (replicate arrayBytes 0) (omega arith))
 
 pub clear-array-spec : {M : Type 1} → statement M
 clear-array-spec =
@@ -70,7 +64,6 @@ clear-array-spec =
     entry-of-requires
     mul-from
     add-from
-    fitting-requires
     loop-holds
     add-all
     slice-write-all
