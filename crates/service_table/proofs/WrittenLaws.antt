@@ -13,7 +13,7 @@ use Rattle.model.specs.Operation.{operationsOf}
 use Rattle.model.specs.Look.{applied}
 use Rattle.model.specs.Invariant.{Good}
 use Rattle.judging.specs.Named.{alteredBy}
-use Rattle.host.specs.Parts.{values, lasts, Row, with}
+use Rattle.host.specs.Parts.{values, lasts, Row}
 use Rattle.host.specs.Rows.{undoAt}
 use Rattle.host.specs.Holding.{Host, tableIn, hostIn}
 use Rattle.host.proofs.PartLaws.{by-parts, length-part}
