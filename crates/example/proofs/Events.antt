@@ -5,7 +5,7 @@ use mathlib.Core.List.{List, [], _∷_}
 use lib.IntN.{pos}
 use lib.ListN.{length}
 use Rattle.model.specs.declared.Engine.the-variants.{Quick}
-use Rattle.model.specs.State.{State, freshState}
+use Rattle.model.specs.State.{State, freshState, clearRows, cleared}
 use Rattle.host.specs.Holding.{Host, hostOf, stateIn, Held}
 use Rattle.host.proofs.HeldLaws.{state-back, held-of}
 use Rattle.service.specs.After.{After, afterOf}
@@ -16,7 +16,7 @@ use Rattle.model.specs.Look.{valuesOf, adjustmentsOf, look, lastsAfter, applied
 use Rattle.model.specs.Marks.{unmark, marked, namedBy, differing, mine, maskOf}
 use Rattle.model.specs.Waking.{without, finish, plainRound, quickRound, plain, quick, waker}
 use Rattle.model.specs.Checks.{identifierOf, slotOf, namesSet, noProcess, asleep, numberTooHigh, permitted, freeFrom, checkCreate, checkOperate, checkNumber, inRange, checkSetValue, checkRemove, checkProcess}
-use Rattle.model.specs.Events.{Result, create, operate, clearRows, cleared, clearNumber, assigned, cut, undoAll, exited, keep, endedWith, doCreate, operated, doOperate, doSetValue, doRemove, treat, treatFrom, touchedFrom, doExit, doQuery, event}
+use Rattle.model.specs.Events.{Result, create, operate, clearNumber, assigned, cut, undoAll, exited, keep, endedWith, doCreate, operated, doOperate, doSetValue, doRemove, treat, treatFrom, touchedFrom, doExit, doQuery, event}
 
 -- one off semaphore 0, and one back
 abbrev take : List ℕ

@@ -10,9 +10,9 @@ use lib.ListN.{set, length-set}
 use lib.Seq.{getD-set-other}
 use Rattle.model.specs.declared.Set.{Set}
 use Rattle.model.specs.Limits.{slots, semaphores}
-use Rattle.model.specs.State.{Sleeper, State, noSet}
+use Rattle.model.specs.State.{Sleeper, State, noSet, cleared}
 use Rattle.model.specs.Waking.{World, Ended, couldFinish}
-use Rattle.model.specs.Events.{Result, refused, checked, wokenAs, cleared, keep}
+use Rattle.model.specs.Events.{Result, refused, checked, wokenAs, keep}
 use Rattle.model.specs.Runs.{All, Alike}
 use Rattle.model.specs.Invariant.{Fits, Invariant, Calm, countAt}
 use Rattle.model.proofs.Lists.{all-zip, all-zip3, all-set}

@@ -7,7 +7,8 @@ use Rattle.model.specs.Look.{valuesOf, adjustmentsOf, look, lastsAfter, 
 use Rattle.model.specs.Marks.{unmark, marked, namedBy, differing, mine, maskOf}
 use Rattle.model.specs.Waking.{without, finish, plainRound, quickRound, plain, quick, waker}
 use Rattle.model.specs.Checks.{identifierOf, slotOf, namesSet, noProcess, asleep, numberTooHigh, permitted, freeFrom, checkCreate, checkOperate, checkNumber, inRange, checkSetValue, checkRemove, checkProcess}
-use Rattle.model.specs.Events.{clearRows, cleared, clearNumber, assigned, cut, undoAll, exited, keep, endedWith, doCreate, operated, doOperate, doSetValue, doRemove, treat, treatFrom, touchedFrom, doExit, doQuery, event}
+use Rattle.model.specs.State.{clearRows, cleared}
+use Rattle.model.specs.Events.{clearNumber, assigned, cut, undoAll, exited, keep, endedWith, doCreate, operated, doOperate, doSetValue, doRemove, treat, treatFrom, touchedFrom, doExit, doQuery, event}
 use Rattle.model.specs.Runs.{run, All, none, also}
 use Rattle.model.specs.Situations.{Row, Shows, Holds, situation1, situation2, situation3, situation4, situation5, situation6, situation7, situation8, situation9, situation10, situation11, situation12, situation12b, situation13, table}
 

@@ -13,12 +13,12 @@ use borrow.Author.Tests.{ltb-false}
 use Rattle.model.specs.declared.Set.{Set}
 use Rattle.model.specs.declared.Operation.{Operation}
 use Rattle.model.specs.Limits.{slots, semaphores, processes, valueMax, allSemaphores, allAdjustments}
-use Rattle.model.specs.State.{Table, Sleeper, row, undoRow}
+use Rattle.model.specs.State.{Table, Sleeper, row, undoRow, clearRows, cleared}
 use Rattle.model.specs.Operation.{operationsOf, hasBit}
 use Rattle.model.specs.Look.{valuesOf}
 use Rattle.model.specs.Marks.{named, differing}
 use Rattle.model.specs.Waking.{couldFinish}
-use Rattle.model.specs.Events.{clearRows, cleared, clearNumber, assigned, cut, undoAll, exited}
+use Rattle.model.specs.Events.{clearNumber, assigned, cut, undoAll, exited}
 use Rattle.model.specs.Runs.{All, none, also}
 use Rattle.model.proofs.Lists.{rest, all-map, all-zip, all-set, all-paste, all-replicate, getD-paste-beside}
 use Rattle.model.specs.Invariant.{Good, Fits, Ranged}

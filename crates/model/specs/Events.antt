@@ -15,7 +15,7 @@ use Rattle.model.specs.declared.Waking.{Waking}
 use Rattle.model.specs.declared.Event as declared
 use Rattle.model.specs.declared.Event.the-variants.{Create, Operate, SetValue, Remove, Signal, Exit, Query}
 use Rattle.model.specs.Limits.{slots, semaphores, processes, valueMax, allSemaphores}
-use Rattle.model.specs.State.{Table, withValues, withAdjustments, Sleeper, State, row, undoRow, freeSet, noSet}
+use Rattle.model.specs.State.{Table, withValues, withAdjustments, Sleeper, State, row, undoRow, cleared, freeSet, noSet}
 use Rattle.model.specs.Judge.{codeOf}
 use Rattle.model.specs.Look.{look, applied, valuesOf}
 use Rattle.model.specs.Marks.{mine, differing, maskOf}
@@ -100,20 +100,6 @@ checked zero s does = does
 checked (suc code) s does = refused s (suc code)
 
 -- ---- what events do to the table and to the queue
-
--- the adjustments with the eight of a slot at 0, for the processes 1 to n
-unfoldable pub clearRows : ℕ → ℕ → List ℤ → List ℤ
-clearRows zero slot l = l
-clearRows (suc n) slot l = paste (clearRows n slot l) (undoRow (suc n) slot) (replicate semaphores (pos 0)) semaphores
-
--- the values, last processes and adjustments of a slot at 0
-unfoldable pub cleared : Table → ℕ → Table
-cleared t slot =
-    record {
-      values = paste (t .values) (row slot) (replicate semaphores 0) semaphores;
-      lasts = paste (t .lasts) (row slot) (replicate semaphores 0) semaphores;
-      adjustments = clearRows processes slot (t .adjustments);
-    }
 
 -- the adjustments with those of one semaphore at 0, for the processes 1 to n
 unfoldable pub clearNumber : ℕ → ℕ → ℕ → List ℤ → List ℤ

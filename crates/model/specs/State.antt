@@ -1,10 +1,11 @@
 -- What the host holds ("What the host holds").
-use Prim.Native.Nat.{ℕ, _+_, _*_, _-_}
+use Prim.Native.Nat.{ℕ, zero, suc, _+_, _*_, _-_}
 use mathlib.Core.List.{List, []}
 use lib.ListN.{replicate}
+use lib.Seq.{paste}
 use lib.IntN.{ℤ, pos}
 use Rattle.model.specs.declared.Set.{Set}
-use Rattle.model.specs.Limits.{slots, semaphores, allSemaphores, allAdjustments}
+use Rattle.model.specs.Limits.{slots, semaphores, processes, allSemaphores, allAdjustments}
 
 -- The numbers of every semaphore: its value and its last process, and for each process an undo adjustment.
 pub record Table : Type 0 where
@@ -41,6 +42,20 @@ row slot = slot * semaphores
 -- where the eight adjustments of a process for a slot begin
 abbrev pub undoRow : ℕ → ℕ → ℕ
 undoRow process slot = (process - 1) * allSemaphores + row slot
+
+-- the adjustments with the eight of a slot at 0, for the processes 1 to n
+unfoldable pub clearRows : ℕ → ℕ → List ℤ → List ℤ
+clearRows zero slot l = l
+clearRows (suc n) slot l = paste (clearRows n slot l) (undoRow (suc n) slot) (replicate semaphores (pos 0)) semaphores
+
+-- the values, last processes and adjustments of a slot at 0
+unfoldable pub cleared : Table → ℕ → Table
+cleared t slot =
+    record {
+      values = paste (t .values) (row slot) (replicate semaphores 0) semaphores;
+      lasts = paste (t .lasts) (row slot) (replicate semaphores 0) semaphores;
+      adjustments = clearRows processes slot (t .adjustments);
+    }
 
 -- a free slot of a generation: every other number is 0
 abbrev pub freeSet : ℕ → Set

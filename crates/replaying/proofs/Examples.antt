@@ -10,7 +10,8 @@ use Rattle.model.specs.Look.{valuesOf, adjustmentsOf, look, lastsAfter, applied
 use Rattle.model.specs.Marks.{unmark, marked, namedBy, differing, mine, maskOf}
 use Rattle.model.specs.Waking.{without, finish, plainRound, quickRound, plain, quick, waker}
 use Rattle.model.specs.Checks.{identifierOf, slotOf, namesSet, noProcess, asleep, numberTooHigh, permitted, freeFrom, checkCreate, checkOperate}
-use Rattle.model.specs.Events.{clearRows, cleared, doCreate, operated, doOperate, event}
+use Rattle.model.specs.State.{clearRows, cleared}
+use Rattle.model.specs.Events.{doCreate, operated, doOperate, event}
 use Rattle.model.specs.Runs.{run}
 use Rattle.runfile.specs.Fields.{wordAt, signed32}
 use Rattle.runfile.specs.Table.{countOf, entriesFrom, chains}

@@ -8,10 +8,10 @@ use Rattle.model.specs.declared.Set.{Set}
 use Rattle.model.specs.declared.Told.{Told}
 use Rattle.model.specs.declared.Waking.{Waking}
 use Rattle.model.specs.Limits.{slots}
-use Rattle.model.specs.State.{Table, Sleeper, freeSet, noSet}
+use Rattle.model.specs.State.{Table, Sleeper, freeSet, noSet, cleared}
 use Rattle.model.specs.Marks.{mine}
 use Rattle.model.specs.Checks.{slotOf, freeSlot, identifierOf, checkCreate, checkRemove}
-use Rattle.model.specs.Events.{keep, endedWith, cleared, doCreate, doRemove}
+use Rattle.model.specs.Events.{keep, endedWith, doCreate, doRemove}
 use Rattle.model.proofs.CheckLaws.{create-passes, remove-passes}
 use Rattle.host.specs.Parts.{Row}
 use Rattle.host.specs.Holding.{Host, withQueue, withTable, hostOf, setAt, withSet, setsIn, queueIn, tableIn, stateIn, Held, arrayIn}

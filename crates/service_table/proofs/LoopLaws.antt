@@ -13,9 +13,9 @@ use lib.ListN.{length, drop, set, getD, replicate, drop-of-length-le}
 use lib.Pow.{pow-lt}
 use lib.Seq.{sets, length-sets, drop-cons}
 use Rattle.model.specs.Limits.{slots, semaphores, processes, allSemaphores, allAdjustments}
-use Rattle.model.specs.State.{row, undoRow}
+use Rattle.model.specs.State.{row, undoRow, clearRows}
 use Rattle.model.specs.Marks.{differing}
-use Rattle.model.specs.Events.{clearRows, clearNumber}
+use Rattle.model.specs.Events.{clearNumber}
 use Rattle.host.specs.Rows.{undoAt}
 use Rattle.host.proofs.RowLaws.{sets-paste}
 use Rattle.host.proofs.SleeperLaws.{undo-at}

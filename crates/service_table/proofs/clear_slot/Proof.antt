@@ -7,8 +7,7 @@ use lib.IntN.{ℤ}
 use lib.ListN.{replicate}
 use lib.Seq.{sets}
 use Rattle.model.specs.Limits.{slots, semaphores, processes}
-use Rattle.model.specs.State.{row}
-use Rattle.model.specs.Events.{clearRows, cleared}
+use Rattle.model.specs.State.{row, clearRows, cleared}
 use Rattle.host.specs.Parts.{values, lasts, Row, rowIn, with}
 use Rattle.host.specs.Rows.{masked}
 use Rattle.host.specs.Holding.{tableIn, hostIn}
