@@ -21,6 +21,6 @@ pub record Queued (q : List Sleeper) : Type 0 where
   pub rooms : All Room q
   pub distinct : Distinct q
 
-pub record Lined (r : Row) : Type 0 where
+pub record QueueHeld (r : Row) : Type 0 where
   pub holds : r ≡ withQueue r (queueIn r)
   pub fits : Queued (queueIn r)

@@ -10,9 +10,9 @@ use Rattle.model.specs.Checks.{identifierOf, slotOf, namesSet, noProcess
 use Rattle.model.specs.State.{clearRows, cleared}
 use Rattle.model.specs.Events.{clearNumber, assigned, cut, undoAll, exited, keep, endedWith, doCreate, operated, doOperate, doSetValue, doRemove, treat, treatFrom, touchedFrom, doExit, doQuery, event}
 use Rattle.model.specs.Runs.{run, All, none, also}
-use Rattle.model.specs.Situations.{Row, Shows, Holds, situation1, situation2, situation3, situation4, situation5, situation6, situation7, situation8, situation9, situation10, situation11, situation12, situation12b, situation13, table}
+use Rattle.model.specs.Situations.{Situation, Shows, Holds, situation1, situation2, situation3, situation4, situation5, situation6, situation7, situation8, situation9, situation10, situation11, situation12, situation12b, situation13, table}
 
-both : (r : Row) → Shows Plain r → Shows Quick r → Holds r
+both : (r : Situation) → Shows Plain r → Shows Quick r → Holds r
 both r p q Plain = p
 both r p q Quick = q
 

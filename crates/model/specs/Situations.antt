@@ -50,7 +50,7 @@ pub record Step : Type 0 where
   pub wakings : List Waking
 
 -- the events of a situation, from a state on
-pub record Row : Type 0 where
+pub record Situation : Type 0 where
   pub start : State
   pub steps : List Step
 
@@ -69,11 +69,11 @@ expected Plain s = record { code = s .code; value = s .value; looks = s .plain; 
 expected Quick s = record { code = s .code; value = s .value; looks = s .quick; wakings = s .wakings }
 
 -- an engine shows what the row says
-abbrev pub Shows : Engine → Row → Type 0
+abbrev pub Shows : Engine → Situation → Type 0
 Shows engine r = map shown (run engine (r .start) (map (λ (s : Step). s .event) (r .steps)) .results) ≡ map (expected engine) (r .steps)
 
 -- .. and so does the other
-abbrev pub Holds : Row → Type 0
+abbrev pub Holds : Situation → Type 0
 Holds r = (engine : Engine) → Shows engine r
 
 -- ---- the table
@@ -95,7 +95,7 @@ abbrev asleep : ℤ
 asleep = minus 1
 
 -- on a fresh host, a set with so many semaphores and all permissions, whose identifier is 0
-abbrev fresh : ℕ → List Step → Row
+abbrev fresh : ℕ → List Step → Situation
 fresh count steps = record { start = freshState; steps = tells (create count 255 255) 0 ∷ steps }
 
 -- the one set of these rows
@@ -103,7 +103,7 @@ abbrev set0 : ℤ
 set0 = pos 0
 
 -- 1: value 0, array +1, -1 on it: done, value 0. Array -1, +1: asleep.
-abbrev pub situation1 : Row
+abbrev pub situation1 : Situation
 situation1 =
     fresh 1
     (gives (operate 1 set0 (op 0 (pos 1) none ++ op 0 (minus 1) none)) done
@@ -112,7 +112,7 @@ situation1 =
     ∷ [])
 
 -- 2: 32,766 and +1 gives 32,767; once more: 34.
-abbrev pub situation2 : Row
+abbrev pub situation2 : Situation
 situation2 =
     fresh 1
     (gives (setValue set0 0 (pos 32766)) done
@@ -123,7 +123,7 @@ situation2 =
     ∷ [])
 
 -- 3: 32,767 and -32,768 with IPC_NOWAIT: 11; without: asleep.
-abbrev pub situation3 : Row
+abbrev pub situation3 : Situation
 situation3 =
     fresh 1
     (gives (setValue set0 0 (pos 32767)) done
@@ -132,7 +132,7 @@ situation3 =
     ∷ [])
 
 -- 4: process 1 does +3 with undo on 0, process 2 does -2, 1 exits: value 0.
-abbrev pub situation4 : Row
+abbrev pub situation4 : Situation
 situation4 =
     fresh 1
     (gives (operate 1 set0 (op 0 (pos 3) undo)) done
@@ -142,7 +142,7 @@ situation4 =
     ∷ [])
 
 -- 5: value 0, -10 with undo after +10 without; another adds 32,765; exit: 32,767.
-abbrev pub situation5 : Row
+abbrev pub situation5 : Situation
 situation5 =
     fresh 1
     (gives (operate 1 set0 (op 0 (pos 10) none)) done
@@ -153,7 +153,7 @@ situation5 =
     ∷ [])
 
 -- 6: value 5, -5 with undo, set value 1, exit: value 1.
-abbrev pub situation6 : Row
+abbrev pub situation6 : Situation
 situation6 =
     fresh 1
     (gives (setValue set0 0 (pos 5)) done
@@ -164,7 +164,7 @@ situation6 =
     ∷ [])
 
 -- 7: asleep on (0,+5),(1,-1) with values 0; set value of 0 to 32,765: woken with 34.
-abbrev pub situation7 : Row
+abbrev pub situation7 : Situation
 situation7 =
     fresh 2
     (gives (operate 1 set0 (op 0 (pos 5) none ++ op 1 (minus 1) none)) asleep
@@ -172,7 +172,7 @@ situation7 =
     ∷ [])
 
 -- 8: asleep on (0,0,IPC_NOWAIT),(1,-1); set value of 0 to 1: woken with 11.
-abbrev pub situation8 : Row
+abbrev pub situation8 : Situation
 situation8 =
     fresh 2
     (gives (operate 1 set0 (op 0 (pos 0) noWait ++ op 1 (minus 1) none)) asleep
@@ -180,7 +180,7 @@ situation8 =
     ∷ [])
 
 -- 9: +32,767 with undo on 0, another process -1, then +1 with undo: 34.
-abbrev pub situation9 : Row
+abbrev pub situation9 : Situation
 situation9 =
     fresh 1
     (gives (operate 1 set0 (op 0 (pos 32767) undo)) done
@@ -189,7 +189,7 @@ situation9 =
     ∷ [])
 
 -- 10: an older sleeper wants 2, a newer 1, value becomes 1: the newer is woken; 3 looks under each rule.
-abbrev pub situation10 : Row
+abbrev pub situation10 : Situation
 situation10 =
     fresh 1
     (gives (operate 1 set0 (op 0 (minus 2) none)) asleep
@@ -202,7 +202,7 @@ situation10 =
 abbrev link : ℕ → Step
 link j = gives (operate (j + 1) set0 (op j (minus 1) none ++ op (j - 1) (pos 1) none)) asleep
 
-abbrev pub situation11 : Row
+abbrev pub situation11 : Situation
 situation11 =
     fresh 8
     (gives (operate 1 set0 (op 0 (minus 1) none)) asleep
@@ -217,7 +217,7 @@ situation11 =
     ∷ [])
 
 -- 12: slot 0 with identifier 0, sleepers 3 and 5, removed: 3=43 5=43; the next create gives 4; identifier 0 is 22.
-abbrev pub situation12 : Row
+abbrev pub situation12 : Situation
 situation12 =
     fresh 1
     (gives (operate 3 set0 (op 0 (minus 1) none)) asleep
@@ -228,7 +228,7 @@ situation12 =
     ∷ [])
 
 -- Identifier 262,140 removed: the next in that slot is 0. (A set in slot 0 that was removed 65,535 times before.)
-abbrev pub situation12b : Row
+abbrev pub situation12b : Situation
 situation12b =
     record {
       start = record {
@@ -243,7 +243,7 @@ situation12b =
 abbrev four : List ℕ
 four = op 7 (pos 1) none ++ op 7 (pos 1) none ++ op 7 (pos 1) none ++ op 7 (pos 1) none
 
-abbrev pub situation13 : Row
+abbrev pub situation13 : Situation
 situation13 =
     fresh 8
     (gives (operate 1 set0 (four ++ four)) done
@@ -252,7 +252,7 @@ situation13 =
     ∷ gives (operate 1 set0 (op 8 (pos 1) none)) (pos 27)
     ∷ [])
 
-abbrev pub table : List Row
+abbrev pub table : List Situation
 table =
     situation1
     ∷ situation2

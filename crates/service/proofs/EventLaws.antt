@@ -19,7 +19,7 @@ use Rattle.model.proofs.Engines.{reached}
 use Rattle.model.proofs.LookLaws.{count-fits}
 use Rattle.host.specs.Parts.{Row}
 use Rattle.host.specs.Holding.{Host, withTable, hostOf, hostWith, setsIn, queueIn, stateIn, Held}
-use Rattle.host.specs.Queue.{Queued, Lined}
+use Rattle.host.specs.Queue.{Queued, QueueHeld}
 use Rattle.host.proofs.PartLaws.{setParts, queueParts, by-groups}
 use Rattle.host.proofs.QueueRows.{queued}
 use Rattle.wakings.specs.Wakings.{listOf}
@@ -42,15 +42,15 @@ module _ (x : Host) (k : Held x) where
   pub held-queued : Queued (queueIn (x .row))
   held-queued = queued (queueIn (x .row)) (held-invariant .fits) (held-invariant .distinct)
 
-  pub held-lined : Lined (x .row)
-  held-lined =
+  pub held-row : QueueHeld (x .row)
+  held-row =
       record {
         holds = by-groups _ _ refl refl (ap (λ (y : Host). queueParts (y .row)) (k .holds));
         fits = held-queued;
       }
 
   pub held-seated : Seated (x .row)
-  held-seated = record { lined = held-lined; some = all-map (λ s f. f .some) (held-invariant .fits) }
+  held-seated = record { holding = held-row; some = all-map (λ s f. f .some) (held-invariant .fits) }
 
   -- every set has at most eight semaphores
   pub held-counts : (slot : ℕ) → countAt (setsIn (x .row)) slot ≤ semaphores
@@ -64,7 +64,7 @@ module _ (x : Host) (k : Held x) where
   pub tabled-with : (t : Table) → tabled x t ≡ hostWith x t (queueIn (x .row))
   tabled-with t =
       ap (λ (r : Row). record { row = r; adjustments = t .adjustments })
-      (ap (λ (r : Row). withTable r t) (held-lined .holds) ∙ table-under (x .row) t (queueIn (x .row)))
+      (ap (λ (r : Row). withTable r t) (held-row .holds) ∙ table-under (x .row) t (queueIn (x .row)))
 
   -- .. as a waking is lent it
   pub poised-lent : (t : Table) {y : Host} {l : List Waking} → y ≡ tabled x t → l ≡ listOf [] → record { host = y; wakings = l; woken = 0 } ≡ unwoken x t (queueIn (x .row))

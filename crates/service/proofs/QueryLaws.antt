@@ -39,7 +39,7 @@ use Rattle.service_waking.proofs.Marking.{shifted, mask-at}
 use Rattle.service.specs.declared.events.query.Waiters.{Waiters}
 use Rattle.service.specs.After.{queriedOf}
 use Rattle.service.specs.Waiting.{bitIf, waitsOf, waitersOf}
-use Rattle.service.proofs.EventLaws.{held-invariant, held-lined, held-counts}
+use Rattle.service.proofs.EventLaws.{held-invariant, held-row, held-counts}
 
 both-first : (a b : Bool) → a && b ≡ true → a ≡ true
 both-first true b e = refl
@@ -55,7 +55,7 @@ module _ (x : Host) (k : Held x) (at : ℕ) (h : at < length (queueIn (x .row)))
   held-settleable =
       let v = held-invariant x k in
       let f = all-at (queueIn (x .row)) at noSleeper (v .fits) h in
-      record { lined = held-lined x k; there = h; fits = f; numbered = numbers-fit (v .counts) sleeper f; good = v .good }
+      record { holding = held-row x k; there = h; fits = f; numbered = numbers-fit (v .counts) sleeper f; good = v .good }
 
   module _ {process : ℕ} (ep : process ≡ getD (x .row order) at 0) where
     pub process-own : process ≡ getD (queueIn (x .row)) at noSleeper .process
@@ -73,7 +73,7 @@ module _ (x : Host) (k : Held x) (at : ℕ) (h : at < length (queueIn (x .row)))
     marked-is : hasBit naming bit ≡ concerned slot (2 ^ n) (getD (queueIn (x .row)) at noSleeper)
     unfolding marked
     marked-is =
-        let f = held-lined x k .fits in
+        let f = held-row x k .fits in
         ap₂ hasBit (em ∙ ap (λ (m : ℕ). markTouched slot m 0 (queueIn (x .row))) (shifted n l)) (eb ∙ ap bitOf (process-own ep))
         ∙ mask-at (concerned slot (2 ^ n)) 0 (queueIn (x .row)) at h (f .rooms) (f .distinct) refl
 

@@ -15,14 +15,14 @@ use Rattle.model.specs.Events.{keep, endedWith, doCreate, doRemove}
 use Rattle.model.proofs.CheckLaws.{create-passes, remove-passes}
 use Rattle.host.specs.Parts.{Row}
 use Rattle.host.specs.Holding.{Host, withQueue, withTable, hostOf, setAt, withSet, setsIn, queueIn, tableIn, stateIn, Held, arrayIn}
-use Rattle.host.specs.Queue.{Queued, Lined}
+use Rattle.host.specs.Queue.{Queued, QueueHeld}
 use Rattle.host.proofs.PartLaws.{setParts, queueParts, by-groups}
 use Rattle.host.proofs.SetRows.{set-in}
 use Rattle.wakings.specs.Wakings.{listOf}
 use Rattle.service_table.specs.Written.{tabled}
 use Rattle.service_queue.specs.Seated.{notMine}
 use Rattle.service.specs.After.{telling, afterOf}
-use Rattle.service.proofs.EventLaws.{held-lined, held-queued, goes-on}
+use Rattle.service.proofs.EventLaws.{held-row, held-queued, goes-on}
 
 map-set : {A B : Type 0} (f : A → B) (l : List A) (i : ℕ) (x : A) → set (map f l) i (f x) ≡ map f (set l i x)
 map-set f [] i x = refl
@@ -43,7 +43,7 @@ module _ (x : Host) (k : Held x) (slot : ℕ) (s : Set) (t : Table) (q : List Sl
 
   -- the queue's parts stay
   row-kept : withTable (withSet (x .row) slot s) t ≡ withQueue (withTable (withSet (x .row) slot s) t) (queueIn (x .row))
-  row-kept = by-groups _ _ refl refl (ap queueParts (held-lined x k .holds))
+  row-kept = by-groups _ _ refl refl (ap queueParts (held-row x k .holds))
 
   queue-kept : queueIn (withTable (withSet (x .row) slot s) t) ≡ queueIn (x .row)
   unfolding queueIn arrayIn
@@ -94,8 +94,8 @@ module _ (x : Host) (k : Held x) (i : ℤ) (z : checkRemove (stateIn x) i ≡ 0)
     queue-there : queueIn (y .row) ≡ queueIn (x .row)
     queue-there = ap (λ (a : Host). queueIn (a .row)) there ∙ queue-kept x k slot (freeSet g) (cleared (tableIn x) slot) (queueIn (x .row))
 
-    pub removed-lined : Lined (y .row)
-    removed-lined =
+    pub removed-row : QueueHeld (y .row)
+    removed-row =
         record {
           holds = ap (λ (a : Host). a .row) there ∙ row-kept x k slot (freeSet g) (cleared (tableIn x) slot) (queueIn (x .row))
               ∙ ap₂ withQueue (ap (λ (a : Host). a .row) (sym there)) (sym queue-there);

@@ -1,5 +1,5 @@
 -- Laws of the queue in the row.
 pub mod MovingLaws
-pub mod LineLaws
+pub mod QueueHeldLaws
 pub mod PositionLaws
 pub mod RemovalLaws

@@ -22,12 +22,12 @@ use Rattle.model.proofs.Lists.{first, rest, all-map, all-at}
 use Rattle.model.proofs.QueueLaws.{awake}
 use Rattle.host.specs.Parts.{Row, order, sizes}
 use Rattle.host.specs.Holding.{ofProcess, byProcess, theSize, withQueue, entry, queueIn}
-use Rattle.host.specs.Queue.{Room, Lined}
+use Rattle.host.specs.Queue.{Room, QueueHeld}
 use Rattle.host.proofs.PartLaws.{less-or-not}
 use Rattle.host.proofs.ProcessLaws.{Awake, of-none, length-by, of-process}
 use Rattle.host.proofs.QueueRows.{entry-is}
 use Rattle.service_queue.specs.Seated.{Seated, notOf, positionOf}
-use Rattle.service_queue.proofs.LineLaws.{part-is, process-is}
+use Rattle.service_queue.proofs.QueueHeldLaws.{part-is, process-is}
 
 -- ---- it sleeps if its array has bytes
 
@@ -57,8 +57,8 @@ asleep-of p (s ∷ q) h = go (eqb (s .process) p) (asleep-of p q (rest h))
 
 pub asleep-read : {r : Row} → Seated r → (p : ℕ) → ltb 0 (getD (r sizes) (entry p) 0) ≡ asleep p (queueIn r)
 asleep-read {r} k p =
-    ap (λ (l : List ℕ). ltb 0 (getD l (entry p) 0)) (part-is (k .lined) sizes)
-    ∙ ap (ltb 0) (size-of p (queueIn r) (k .lined .fits .rooms))
+    ap (λ (l : List ℕ). ltb 0 (getD l (entry p) 0)) (part-is (k .holding) sizes)
+    ∙ ap (ltb 0) (size-of p (queueIn r) (k .holding .fits .rooms))
     ∙ asleep-of p (queueIn r) (k .some)
 
 -- ---- its position
@@ -98,7 +98,7 @@ module _ {p : ℕ} {r : Row} {i : ℕ} (v : Searching p r i) where
       let e : positionOf p (drop i (queueIn r)) ≡ 0 = rw (drop-of-length-le (queueIn r) h) in
       omega (arith, v .further, e)
 
-  module _ (k : Lined r) (h : i < length (queueIn r)) {x : ℕ} (ex : x ≡ getD (r order) i 0) where
+  module _ (k : QueueHeld r) (h : i < length (queueIn r)) {x : ℕ} (ex : x ≡ getD (r order) i 0) where
     here : x ≡ getD (queueIn r) i noSleeper .process
     here = ex ∙ process-is k i h
 
@@ -132,7 +132,7 @@ module _ (p : ℕ) where
       let n : s .process ≢ p = λ (x : s .process ≡ p). all-at q i noSleeper o g (e ∙ sym x) in
       rw (ne-eqb (s .process) p n) (ap (λ (r : List Sleeper). s ∷ r) (keep-without q i d g e))
 
-  module _ {r : Row} (k : Lined r) where
+  module _ {r : Row} (k : QueueHeld r) where
     pub left-asleep : asleep p (queueIn r) ≡ true → {r′ : Row} {at : ℕ} → at ≡ positionOf p (queueIn r) → r′ ≡ withQueue r (without (queueIn r) at)
         → r′ ≡ withQueue r (keep (notOf p) (queueIn r))
     left-asleep a {r′} {at} ea e =

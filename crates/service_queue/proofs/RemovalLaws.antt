@@ -19,13 +19,13 @@ use Rattle.model.specs.Events.{keep, endedWith}
 use Rattle.model.proofs.Lists.{length-without}
 use Rattle.host.specs.Parts.{Row, order, sleepsAt}
 use Rattle.host.specs.Holding.{withQueue, entry, queueIn}
-use Rattle.host.specs.Queue.{Queued, Lined}
+use Rattle.host.specs.Queue.{Queued, QueueHeld}
 use Rattle.host.proofs.QueueRows.{queued-without}
 use Rattle.wakings.specs.Wakings.{listOf}
 use Rattle.wakings.proofs.ListLaws.{noted}
 use Rattle.service_queue.specs.Seated.{notMine}
 use Rattle.service_queue.proofs.MovingLaws.{without-split}
-use Rattle.service_queue.proofs.LineLaws.{queue-again, shows, lined-with, process-is, slot-is}
+use Rattle.service_queue.proofs.QueueHeldLaws.{queue-again, shows, row-with, process-is, slot-is}
 
 -- ---- who is kept and who is ended, at a position of a queue
 
@@ -93,16 +93,16 @@ module _ {slot : ℕ} {q₀ q : List Sleeper} {ended : List Waking} {i : ℕ} (v
 -- ---- the row and the list of wakings
 
 pub record Removing (slot : ℕ) (r₀ r : Row) (wakings : List Waking) (woken i : ℕ) : Type 0 where
-  pub lined : Lined r
+  pub holding : QueueHeld r
   pub same : r ≡ withQueue r₀ (queueIn r)
   pub ended : List Waking
   pub listed : wakings ≡ listOf ended
   pub count : woken ≡ length ended
   pub ending : Ending slot (queueIn r₀) (queueIn r) ended i
 
-pub removing-none : {slot : ℕ} {r : Row} {wakings : List Waking} → Lined r → wakings ≡ listOf [] → Removing slot r r wakings 0 0
+pub removing-none : {slot : ℕ} {r : Row} {wakings : List Waking} → QueueHeld r → wakings ≡ listOf [] → Removing slot r r wakings 0 0
 removing-none k e =
-    record { lined = k; same = k .holds; ended = []; listed = e; count = refl; ending = record { within = omega arith; room = omega (arith, k .fits .few); kept = refl; told = refl } }
+    record { holding = k; same = k .holds; ended = []; listed = e; count = refl; ending = record { within = omega arith; room = omega (arith, k .fits .few); kept = refl; told = refl } }
 
 module _ {slot : ℕ} {r₀ r : Row} {wakings : List Waking} {woken i : ℕ} (v : Removing slot r₀ r wakings woken i) where
   pub removed-all : length (queueIn r) ≤ i → r ≡ withQueue r₀ (keep (notMine slot) (queueIn r₀))
@@ -119,13 +119,13 @@ module _ {slot : ℕ} {r₀ r : Row} {wakings : List Waking} {woken i : ℕ} (v 
 
   module _ (h : i < length (queueIn r)) {p at : ℕ} (ep : p ≡ getD (r order) i 0) (es : at ≡ getD (r sleepsAt) (entry p) 0) where
     slot-there : at ≡ getD (queueIn r) i noSleeper .slot
-    slot-there = es ∙ slot-is (v .lined) i h ep
+    slot-there = es ∙ slot-is (v .holding) i h ep
 
     pub removing-other : at ≢ slot → Removing slot r₀ r wakings woken (i + 1)
     unfolding mine
     removing-other n =
         record {
-          lined = v .lined;
+          holding = v .holding;
           same = v .same;
           ended = v .ended;
           listed = v .listed;
@@ -135,7 +135,7 @@ module _ {slot : ℕ} {r₀ r : Row} {wakings : List Waking} {woken i : ℕ} (v 
 
     module _ {r′ : Row} (er : r′ ≡ withQueue r (without (queueIn r) i)) where
       fits : Queued (without (queueIn r) i)
-      fits = queued-without (queueIn r) i h (v .lined .fits)
+      fits = queued-without (queueIn r) i h (v .holding .fits)
 
       now : queueIn r′ ≡ without (queueIn r) i
       now = shows r er fits
@@ -149,9 +149,9 @@ module _ {slot : ℕ} {r₀ r : Row} {wakings : List Waking} {woken i : ℕ} (v 
           let s : Sleeper = getD (queueIn r) i noSleeper in
           let w : Waking = waking (s .process) (pos 43) in
           let m : mine slot s ≡ true = eq-eqb (s .slot) slot (sym slot-there ∙ e) in
-          let here : waking p (pos 43) ≡ w = ap (λ (n : ℕ). waking n (pos 43)) (ep ∙ process-is (v .lined) i h) in
+          let here : waking p (pos 43) ≡ w = ap (λ (n : ℕ). waking n (pos 43)) (ep ∙ process-is (v .holding) i h) in
           record {
-            lined = lined-with r er fits;
+            holding = row-with r er fits;
             same = er ∙ ap (λ (x : Row). withQueue x (without (queueIn r) i)) (v .same) ∙ queue-again r₀ (queueIn r) (without (queueIn r) i) ∙ ap (withQueue r₀) (sym now);
             ended = v .ended ++ w ∷ [];
             listed = ew ∙ ap₂ (λ (l : List Waking) (k : ℕ). set l k (waking p (pos 43))) (v .listed) (v .count) ∙ ap (λ (x : Waking). set (listOf (v .ended)) (length (v .ended)) x) here ∙ noted (v .ended) (s .process) (pos 43) (omega (arith, v .ending .room));

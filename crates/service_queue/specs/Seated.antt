@@ -10,10 +10,10 @@ use Rattle.model.specs.Marks.{mine}
 use Rattle.model.specs.Runs.{All}
 use Rattle.host.specs.Parts.{Row}
 use Rattle.host.specs.Holding.{queueIn}
-use Rattle.host.specs.Queue.{Lined}
+use Rattle.host.specs.Queue.{QueueHeld}
 
 pub record Seated (r : Row) : Type 0 where
-  pub lined : Lined r
+  pub holding : QueueHeld r
   pub some : All (λ (s : Sleeper). 0 < length (s .array)) (queueIn r)
 
 -- those of other processes, and those that sleep at other sets

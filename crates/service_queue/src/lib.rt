@@ -14,7 +14,7 @@ ghost use Rattle.model.specs.Events.{keep, endedWith};
 ghost use Rattle.model.specs.Runs.{All};
 ghost use Rattle.host.specs.Parts.{order, rowIn, with};
 ghost use Rattle.host.specs.Holding.{withQueue, queueIn};
-ghost use Rattle.host.specs.Queue.{Room, Lined};
+ghost use Rattle.host.specs.Queue.{Room, QueueHeld};
 ghost use Rattle.wakings.specs.Wakings.{wakingsIn, listOf};
 ghost use Rattle.service_table.specs.Numbered.{Numbered};
 ghost use Rattle.service_queue.specs.Seated.{Seated, notOf, notMine, positionOf, movedUp};
@@ -34,7 +34,7 @@ use wakings::note;
 
 // A call joins behind the others.
 pub fn fall_asleep(host: &mut [u8; HOST_BYTES], process: u8, slot: usize, bytes: &[u8])
-    requires { ⌜ Lined (rowIn (now host)) ⌝ }
+    requires { ⌜ QueueHeld (rowIn (now host)) ⌝ }
     requires { ⌜ Room (record { process = process; slot = slot; array = now bytes }) ⌝ }
     requires { ⌜ All (λ (s : Sleeper). s .process ≢ process) (queueIn (rowIn (now host))) ⌝ }
     requires { ⌜ length (queueIn (rowIn (now host))) < processes ⌝ }
@@ -71,7 +71,7 @@ fn move_up(host: &mut [u8; HOST_BYTES], at: usize, last: usize)
 
 // The sleeper at a position is taken out.
 pub fn take_out(host: &mut [u8; HOST_BYTES], at: usize)
-    requires { ⌜ Lined (rowIn (now host)) ⌝ }
+    requires { ⌜ QueueHeld (rowIn (now host)) ⌝ }
     requires { ⌜ at < length (queueIn (rowIn (now host))) ⌝ }
     ensures { λ _. ⌜ rowIn (now (host .exit)) ≡ withQueue (rowIn (now (host .entry))) (without (queueIn (rowIn (now (host .entry)))) at) ⌝ }
 {
@@ -93,7 +93,7 @@ pub fn is_asleep(host: &[u8; HOST_BYTES], process: u8) -> bool
 
 // The position of the sleeper of a process; the number of the sleepers if it is awake.
 fn position(host: &[u8; HOST_BYTES], process: u8) -> usize
-    requires { ⌜ Lined (rowIn (now host)) ⌝ }
+    requires { ⌜ QueueHeld (rowIn (now host)) ⌝ }
     ensures { λ r. ⌜ r ≡ positionOf process (queueIn (rowIn (now (host .entry)))) ⌝ }
 {
     let n = asleep_of(host);
@@ -127,7 +127,7 @@ pub fn remove_set(
     wakings: &mut [u8; WAKING_BYTES],
     slot: usize,
 ) -> usize
-    requires { ⌜ Lined (rowIn (now host)) ⌝ }
+    requires { ⌜ QueueHeld (rowIn (now host)) ⌝ }
     requires { ⌜ wakingsIn (now wakings) ≡ listOf [] ⌝ }
     ensures { λ _. ⌜ rowIn (now (host .exit)) ≡ withQueue (rowIn (now (host .entry))) (keep (notMine slot) (queueIn (rowIn (now (host .entry))))) ⌝ }
     ensures { λ _. ⌜ wakingsIn (now (wakings .exit)) ≡ listOf (endedWith (pos 43) (mine slot) (queueIn (rowIn (now (host .entry))))) ⌝ }

@@ -24,7 +24,7 @@ use Rattle.model.proofs.Lists.{all-map, all-at}
 use Rattle.model.proofs.WakingLaws.{finish-wakings}
 use Rattle.host.specs.Parts.{counts, order, sleepsAt, Row}
 use Rattle.host.specs.Holding.{withQueue, withTable, setsFrom, setsIn, entry, arrayIn, asleepIn, queueIn, tableIn}
-use Rattle.host.specs.Queue.{Queued, Lined}
+use Rattle.host.specs.Queue.{Queued, QueueHeld}
 use Rattle.host.proofs.PartLaws.{by-groups}
 use Rattle.host.proofs.QueueRows.{queued, queue-back, order-at, slot-read, array-read-back}
 use Rattle.wakings.specs.Wakings.{listOf}
@@ -106,18 +106,18 @@ module _ (x : Lent) (r : Ready x) where
   unfolding lentWith worldIn
   row-is = ap (λ (y : Lent). y .host .row) (r .holds) ∙ table-same (x .host .row) (x .host .adjustments) (queueIn (x .host .row))
 
-  pub ready-lined : Lined (x .host .row)
+  pub ready-row : QueueHeld (x .host .row)
   unfolding worldIn
-  ready-lined = record { holds = row-is; fits = ready-queued }
+  ready-row = record { holds = row-is; fits = ready-queued }
 
   -- .. and with another table
-  pub lined-tabled : (t : Table) → Lined (withTable (x .host .row) t)
-  lined-tabled t =
+  pub row-tabled : (t : Table) → QueueHeld (withTable (x .host .row) t)
+  row-tabled t =
       record {
         holds =
-            ap (λ (y : Row). withTable y t) (ready-lined .holds) ∙ table-under (x .host .row) t (queueIn (x .host .row))
+            ap (λ (y : Row). withTable y t) (ready-row .holds) ∙ table-under (x .host .row) t (queueIn (x .host .row))
             ∙ ap (withQueue (withTable (x .host .row) t)) (sym (queue-aside (x .host .row) t));
-        fits = subst Queued (sym (queue-aside (x .host .row) t)) (ready-lined .fits);
+        fits = subst Queued (sym (queue-aside (x .host .row) t)) (ready-row .fits);
       }
 
   pub asleep-all : asleepIn (x .host .row) ≡ length (worldIn x .queue)

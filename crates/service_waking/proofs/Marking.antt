@@ -24,7 +24,7 @@ use Rattle.model.proofs.MarkLaws.{marked-bit}
 use Rattle.model.proofs.QueueLaws.{others-first, distinct-rest}
 use Rattle.host.specs.Parts.{Row, Part, sleepsAt, names}
 use Rattle.host.specs.Holding.{ofProcess, byProcess, theSlot, withQueue, entry, queueIn}
-use Rattle.host.specs.Queue.{Room, Lined}
+use Rattle.host.specs.Queue.{Room, QueueHeld}
 use Rattle.host.proofs.ProcessLaws.{of-process}
 use Rattle.host.proofs.QueueRows.{entry-is}
 
@@ -181,7 +181,7 @@ of-tests slot touched p (s ∷ q) = go (eqb (s .process) p) (of-tests slot touch
     go false ih = ih
 
 -- what stands at the next process in a part by process
-by-next : {r : Row} → Lined r → (p : Part) (f : Sleeper → ℕ) (n : ℕ) → withQueue r (queueIn r) p ≡ byProcess f processes 1 (queueIn r) → n < processes
+by-next : {r : Row} → QueueHeld r → (p : Part) (f : Sleeper → ℕ) (n : ℕ) → withQueue r (queueIn r) p ≡ byProcess f processes 1 (queueIn r) → n < processes
     → getD (r p) (entry (n + 1)) 0 ≡ ofProcess 0 f (n + 1) (queueIn r)
 by-next {r} k p f n e l =
     rw (entry-is (n + 1) (omega arith))
@@ -195,7 +195,7 @@ pub record Marking (r : Row) (slot touched marks m n : ℕ) : Type 0 where
   pub within : n ≤ processes
   pub same : m ≡ maskOf (upTo (concerned slot touched) n) marks (queueIn r)
 
-module _ {r : Row} (k : Lined r) {slot touched marks : ℕ} where
+module _ {r : Row} (k : QueueHeld r) {slot touched marks : ℕ} where
   pub mark-none : Marking r slot touched marks marks 0
   mark-none =
       record {

@@ -20,7 +20,7 @@ use Rattle.model.specs.Invariant.{Good, Fits}
 use Rattle.host.specs.Parts.{order, sleepsAt, Row}
 use Rattle.host.specs.Rows.{from, undoAt}
 use Rattle.host.specs.Holding.{Host, withQueue, withTable, entry, arrayIn, asleepIn, setsIn, queueIn, tableIn}
-use Rattle.host.specs.Queue.{Lined}
+use Rattle.host.specs.Queue.{QueueHeld}
 use Rattle.host.proofs.QueueRows.{order-at, slot-read, array-read-back}
 use Rattle.judging.specs.Walk.{walkFrom}
 use Rattle.judging.specs.Named.{alteredBy}
@@ -29,25 +29,25 @@ use Rattle.service_table.specs.Written.{tabled, written}
 use Rattle.service_table.proofs.WrittenLaws.{sized-good, written-applied}
 use Rattle.service_waking.specs.Lent.{Lent, worldIn, lentWith, Ready, JudgedAs, Settleable}
 use Rattle.service_waking.proofs.LookLaws.{values-read, undo-read, judged-as, judged-where}
-use Rattle.service_waking.proofs.LentLaws.{queue-aside, ready-lined, lined-tabled, world-queue, world-table, asleep-all, the-fit, the-numbered, finish-lent}
+use Rattle.service_waking.proofs.LentLaws.{queue-aside, ready-row, row-tabled, world-queue, world-table, asleep-all, the-fit, the-numbered, finish-lent}
 
 module _ (x : Host) (at : ℕ) (k : Settleable x at) where
   abbrev sleeper : Sleeper
   sleeper = getD (queueIn (x .row)) at noSleeper
 
   pub settled-process : getD (x .row order) at 0 ≡ getD (queueIn (x .row)) at noSleeper .process
-  settled-process = ap (λ (y : Row). getD (y order) at 0) (k .lined .holds) ∙ order-at (queueIn (x .row)) at (k .there)
+  settled-process = ap (λ (y : Row). getD (y order) at 0) (k .holding .holds) ∙ order-at (queueIn (x .row)) at (k .there)
 
   pub settled-slot : getD (x .row sleepsAt) (entry (getD (x .row order) at 0)) 0 ≡ getD (queueIn (x .row)) at noSleeper .slot
   settled-slot =
       ap (λ (p : ℕ). getD (x .row sleepsAt) (entry p) 0) settled-process
-      ∙ ap (λ (y : Row). getD (y sleepsAt) (entry (sleeper .process)) 0) (k .lined .holds)
-      ∙ slot-read (queueIn (x .row)) (k .lined .fits) at (k .there) (x .row)
+      ∙ ap (λ (y : Row). getD (y sleepsAt) (entry (sleeper .process)) 0) (k .holding .holds)
+      ∙ slot-read (queueIn (x .row)) (k .holding .fits) at (k .there) (x .row)
 
   pub settled-array : arrayIn (x .row) (getD (x .row order) at 0) ≡ getD (queueIn (x .row)) at noSleeper .array
   settled-array =
-      ap (arrayIn (x .row)) settled-process ∙ ap (λ (y : Row). arrayIn y (sleeper .process)) (k .lined .holds)
-      ∙ array-read-back (queueIn (x .row)) (k .lined .fits) at (k .there) (x .row)
+      ap (arrayIn (x .row)) settled-process ∙ ap (λ (y : Row). arrayIn y (sleeper .process)) (k .holding .holds)
+      ∙ array-read-back (queueIn (x .row)) (k .holding .fits) at (k .there) (x .row)
 
   -- a look: the copies that were read, walked over
   module _ {process slot : ℕ} {bytes values : List ℕ} {undo : List ℤ} (ep : process ≡ getD (x .row order) at 0) (es : slot ≡ getD (x .row sleepsAt) (entry process) 0)
@@ -95,7 +95,7 @@ pub settleable : (x : Lent) → Ready x → (at : ℕ) → at < length (worldIn 
 settleable x r at h =
     let a : at < asleepIn (x .host .row) = omega (arith, h, asleep-all x r) in
     record {
-      lined = ready-lined x r;
+      holding = ready-row x r;
       there = subst (λ (q : List Sleeper). at < length q) (world-queue x) h;
       fits = subst (λ (q : List Sleeper). Fits (setsIn (x .host .row)) (getD q at noSleeper)) (world-queue x) (the-fit x r at a);
       numbered = subst (λ (q : List Sleeper). Numbered (getD q at noSleeper .array)) (world-queue x) (the-numbered x r at a);
@@ -123,8 +123,8 @@ module _ (x : Lent) (r : Ready x) (at : ℕ) (there : at < length (worldIn x .qu
   queue-there : queueIn (h₁ .row) ≡ queueIn (x .host .row)
   queue-there = ap queueIn row-there ∙ queue-aside (x .host .row) settled
 
-  pub finish-lined : Lined (h₁ .row)
-  finish-lined = subst Lined (sym row-there) (lined-tabled x r settled)
+  pub finish-row : QueueHeld (h₁ .row)
+  finish-row = subst QueueHeld (sym row-there) (row-tabled x r settled)
 
   pub finish-there : at < length (queueIn (h₁ .row))
   finish-there = subst (λ (q : List Sleeper). at < length q) (world-queue x ∙ sym queue-there) there

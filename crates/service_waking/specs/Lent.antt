@@ -18,7 +18,7 @@ use Rattle.model.specs.Waking.{World, Ended, plain, quick, waker}
 use Rattle.model.specs.Events.{world, treatFrom}
 use Rattle.model.specs.Invariant.{Good, Fits, Calm, countAt}
 use Rattle.host.specs.Holding.{Host, hostIn, hostWith, setsIn, tableIn, queueIn}
-use Rattle.host.specs.Queue.{Lined}
+use Rattle.host.specs.Queue.{QueueHeld}
 use Rattle.wakings.specs.Wakings.{wakingsIn, listOf}
 use Rattle.service_table.specs.Numbered.{Numbered}
 use Rattle.service_waking.specs.declared.Tally.{Tally}
@@ -68,7 +68,7 @@ pub record JudgedAs (t : Table) (s : Sleeper) (o : Outcome) (c : Copies) : Type 
 
 -- what settling the array of the sleeper at a position asks: it is there, as the checks left it
 pub record Settleable (x : Host) (at : ℕ) : Type 0 where
-  pub lined : Lined (x .row)
+  pub holding : QueueHeld (x .row)
   pub there : at < length (queueIn (x .row))
   pub fits : Fits (setsIn (x .row)) (getD (queueIn (x .row)) at noSleeper)
   pub numbered : Numbered (getD (queueIn (x .row)) at noSleeper .array)

@@ -14,7 +14,7 @@ ghost use Rattle.model.specs.Waking.{finish as finished};
 ghost use Rattle.model.specs.Marks.{bitOf, markTouched};
 ghost use Rattle.host.specs.Parts.{rowIn};
 ghost use Rattle.host.specs.Holding.{hostIn, queueIn, tableIn};
-ghost use Rattle.host.specs.Queue.{Lined};
+ghost use Rattle.host.specs.Queue.{QueueHeld};
 ghost use Rattle.service_table.specs.Numbered.{IsSlot, IsProcess};
 ghost use Rattle.service_table.specs.Written.{tabled};
 ghost use Rattle.service_waking.specs.Lent.{lentIn, worldIn, lentWith, leftIn, Ready, JudgedAs, Settleable, Finishable, plainly, quickly, treated, treatedFrom, looksMax};
@@ -193,7 +193,7 @@ fn wake_plain(
 // The marks, and those of the sleepers of a slot that name a touched semaphore.
 pub fn mark_touched(host: &[u8; HOST_BYTES], slot: usize, touched: u8, marks: u8) -> u8
     requires { ⌜ IsSlot slot ⌝ }
-    requires { ⌜ Lined (rowIn (now host)) ⌝ }
+    requires { ⌜ QueueHeld (rowIn (now host)) ⌝ }
     ensures { λ r. ⌜ r ≡ markTouched slot touched marks (queueIn (rowIn (now (host .entry)))) ⌝ }
 {
     let place = (slot % 256) as u8;

@@ -8,7 +8,7 @@ use Rattle.model.specs.Marks.{namedBy}
 use Rattle.judging.proofs.NamedLaws.{named-within}
 use Rattle.host.specs.Parts.{rowIn}
 use Rattle.host.specs.Holding.{queueIn}
-use Rattle.service_queue.proofs.LineLaws.{before-it, joined-behind}
+use Rattle.service_queue.proofs.QueueHeldLaws.{before-it, joined-behind}
 use Rattle.service_queue.proofs.fall_asleep.Statement.{statement}
 use Rattle.service_queue.proofs.fall_asleep.Tie as tie
 

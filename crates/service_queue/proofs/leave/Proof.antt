@@ -17,19 +17,19 @@ position-requires c κs = search needs
 take-out-requires : tie.Need-take-out-requires
 take-out-requires c κs =
     let s = c .before .before .before .before .before .before in
-    (s .pre .lined, omega (arith, c .before .position .ensures, asleep-there (s .args .process) (queueIn (rowIn (s .args .host .now))) (sym (c .before .before .before .before .is-asleep .ensures) ∙ c .before .before .before .if1 .taken)))
+    (s .pre .holding, omega (arith, c .before .position .ensures, asleep-there (s .args .process) (queueIn (rowIn (s .args .host .now))) (sym (c .before .before .before .before .is-asleep .ensures) ∙ c .before .before .before .if1 .taken)))
 
 returns : tie.Need-returns
 returns c =
     let s = c .before .before .before .before .before .before .before in
     let a = sym (c .before .before .before .before .before .is-asleep .ensures) ∙ c .before .before .before .before .if1 .taken in
-    (sym a, left-asleep (s .args .process) (s .pre .lined) a (c .before .before .position .ensures) (c .take-out .ensures))
+    (sym a, left-asleep (s .args .process) (s .pre .holding) a (c .before .before .position .ensures) (c .take-out .ensures))
 
 returns-2 : tie.Need-returns-2
 returns-2 c =
     let s = c .before .before .before in
     let a = sym (c .before .is-asleep .ensures) ∙ c .if1 .left in
-    (sym a, left-awake (s .args .process) (s .pre .lined) a)
+    (sym a, left-awake (s .args .process) (s .pre .holding) a)
 
 pub leave-spec : {M : Type 1} → statement M
 leave-spec =

@@ -5,7 +5,7 @@ use borrow.Author.Needs.{needs}
 use lib.ListN.{length}
 use Rattle.host.specs.Parts.{rowIn}
 use Rattle.host.specs.Holding.{queueIn}
-use Rattle.service_queue.proofs.LineLaws.{asleep-is}
+use Rattle.service_queue.proofs.QueueHeldLaws.{asleep-is}
 use Rattle.service_queue.proofs.PositionLaws.{Searching, search-none, search-end, search-found, search-more}
 use Rattle.service_queue.proofs.position.Statement.{statement}
 use Rattle.service_queue.proofs.position.Tie as tie

@@ -6,7 +6,7 @@ use lib.ListN.{length}
 use Rattle.host.specs.Parts.{rowIn}
 use Rattle.host.specs.Holding.{queueIn}
 use Rattle.wakings.specs.Wakings.{wakingsIn}
-use Rattle.service_queue.proofs.LineLaws.{asleep-is}
+use Rattle.service_queue.proofs.QueueHeldLaws.{asleep-is}
 use Rattle.service_queue.proofs.RemovalLaws.{Removing, removing-none, removing-one, removing-other, one-less, woken-few, removed-all, listed-all, counted-all}
 use Rattle.service_queue.proofs.remove_set.Statement.{statement}
 use Rattle.service_queue.proofs.remove_set.Tie as tie
@@ -25,7 +25,7 @@ asleep-of-requires c κs = search needs
 
 -- the sleeper that is looked at is there
 there : (c : tie.Then1 Inv-loop μ-loop) → c .before .before .before .loop .i < length (queueIn (rowIn (c .before .before .before .loop .host)))
-there c = omega (arith, c .if1 .taken, c .before .asleep-of .ensures, asleep-is (c .before .before .before .loop .inv .lined))
+there c = omega (arith, c .if1 .taken, c .before .asleep-of .ensures, asleep-is (c .before .before .before .loop .inv .holding))
 
 process-at-requires : tie.Need-process-at-requires Inv-loop μ-loop
 process-at-requires c κs = search needs
@@ -34,7 +34,7 @@ slot-at-requires : tie.Need-slot-at-requires Inv-loop μ-loop
 slot-at-requires c κs = search needs
 
 take-out-requires : tie.Need-take-out-requires Inv-loop μ-loop
-take-out-requires c κs = let t = c .before .before .before .before .before .before in (t .before .before .before .loop .inv .lined, there t)
+take-out-requires c κs = let t = c .before .before .before .before .before .before in (t .before .before .before .loop .inv .holding, there t)
 
 note-requires : tie.Need-note-requires Inv-loop μ-loop
 note-requires c κs = search needs
@@ -53,7 +53,7 @@ loop-again c =
     removing-one (t .before .before .before .loop .inv) (there t) (c .before .before .before .before .before .before .before .process-at .ensures) (c .before .before .before .before .before .slot-at .ensures) (c .before .before .take-out .ensures) (c .before .before .before .before .if2 .taken) (c .note .ensures)
 
 add-i : tie.Need-add-i Inv-loop μ-loop
-add-i c = let t = c .before .before .before .before .before in omega (arith, there t, t .before .before .before .loop .inv .lined .fits .few)
+add-i c = let t = c .before .before .before .before .before in omega (arith, there t, t .before .before .before .loop .inv .holding .fits .few)
 
 loop-less-2 : tie.Need-loop-less-2 Inv-loop μ-loop
 loop-less-2 c = omega (arith, there (c .before .before .before .before .before))
@@ -66,7 +66,7 @@ loop-again-2 c =
 returns : tie.Need-returns Inv-loop μ-loop
 returns c =
     let v = c .before .before .before .loop .inv in
-    let h : length (queueIn (rowIn (c .before .before .before .loop .host))) ≤ c .before .before .before .loop .i = omega (arith, c .if1 .left, c .before .asleep-of .ensures, asleep-is (v .lined)) in
+    let h : length (queueIn (rowIn (c .before .before .before .loop .host))) ≤ c .before .before .before .loop .i = omega (arith, c .if1 .left, c .before .asleep-of .ensures, asleep-is (v .holding)) in
     (removed-all v h, (listed-all v h, counted-all v h))
 
 pub remove-set-spec : {M : Type 1} → statement M

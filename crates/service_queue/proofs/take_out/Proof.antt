@@ -5,7 +5,7 @@ use mathlib.Core.Path.{_≡_, ap, _∙_}
 use lib.ListN.{length}
 use Rattle.host.specs.Parts.{rowIn}
 use Rattle.host.specs.Holding.{queueIn}
-use Rattle.service_queue.proofs.LineLaws.{still-asleep, taken-out}
+use Rattle.service_queue.proofs.QueueHeldLaws.{still-asleep, taken-out}
 use borrow.Author.Needs.{needs}
 use Rattle.service_queue.proofs.take_out.Statement.{statement}
 use Rattle.service_queue.proofs.take_out.Tie as tie

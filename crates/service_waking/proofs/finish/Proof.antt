@@ -1,6 +1,6 @@
 -- `service_waking::finish` meets its contract.
 use Rattle.service_waking.specs.Lent.{lentIn}
-use Rattle.service_waking.proofs.SettleLaws.{settleable, finish-lined, finish-there, finish-all}
+use Rattle.service_waking.proofs.SettleLaws.{settleable, finish-row, finish-there, finish-all}
 use borrow.Author.Needs.{needs}
 use Rattle.service_waking.proofs.finish.Statement.{statement}
 use Rattle.service_waking.proofs.finish.Tie as tie
@@ -15,7 +15,7 @@ take-out-requires : tie.Need-take-out-requires
 take-out-requires c κs =
     let a = c .before .before .before .before .before .before .before .before in
     let x = lentIn (a .args .host .now) (a .args .adjustments .now) (a .args .wakings .now) (a .args .woken) in
-    (finish-lined x (a .pre .ready) (a .args .at) (a .pre .there) _ _ (c .before .settle .ensures), finish-there x (a .pre .ready) (a .args .at) (a .pre .there) _ _ (c .before .settle .ensures))
+    (finish-row x (a .pre .ready) (a .args .at) (a .pre .there) _ _ (c .before .settle .ensures), finish-there x (a .pre .ready) (a .args .at) (a .pre .there) _ _ (c .before .settle .ensures))
 
 ending-requires : tie.Need-ending-requires
 ending-requires c κs = search needs

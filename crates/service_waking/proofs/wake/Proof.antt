@@ -1,6 +1,6 @@
 -- `service_waking::wake` meets its contract: each engine goes by its rule, and where nothing is touched the quick one leaves
 -- everything.
-use Rattle.service_waking.proofs.LentLaws.{ready-lined}
+use Rattle.service_waking.proofs.LentLaws.{ready-row}
 use Rattle.service_waking.proofs.SetLoops.{wakes-plain, wakes-quick, wakes-nobody}
 use borrow.Author.Needs.{needs}
 use Rattle.service_waking.proofs.wake.Statement.{statement}
@@ -19,7 +19,7 @@ returns : tie.Need-returns
 returns c = wakes-nobody _ _ _ _ (c .before .enum-told2 .given .1) (c .before .before .before .pre .1 .0) (c .if1 .taken)
 
 mark-touched-requires : tie.Need-mark-touched-requires
-mark-touched-requires c κs = let s = c .before .before .before .before in (s .pre .0, ready-lined _ (s .pre .1 .0))
+mark-touched-requires c κs = let s = c .before .before .before .before in (s .pre .0, ready-row _ (s .pre .1 .0))
 
 wake-quick-requires : tie.Need-wake-quick-requires
 wake-quick-requires c κs = search needs

@@ -16,9 +16,9 @@ use Rattle.model.specs.Waking.{finish}
 use Rattle.host.specs.Parts.{values, order, sleepsAt, rowIn}
 use Rattle.host.specs.Rows.{from}
 use Rattle.host.specs.Holding.{hostIn, entry, asleepIn, tableIn, queueIn}
-use Rattle.host.specs.Queue.{Lined}
+use Rattle.host.specs.Queue.{QueueHeld}
 use Rattle.service_waking.specs.Lent.{Lent, lentIn, worldIn, lentWith, JudgedAs, Settleable, Finishable, quickly}
-use Rattle.service_waking.proofs.LentLaws.{asleep-few, within, woken-few, is-process, ready-lined}
+use Rattle.service_waking.proofs.LentLaws.{asleep-few, within, woken-few, is-process, ready-row}
 use Rattle.service_waking.proofs.LookLaws.{values-in}
 use Rattle.service_waking.proofs.SettleLaws.{settleable, judged-in}
 use Rattle.service_waking.proofs.WakingLoops.{Begun, begun, begun-next, Again}
@@ -176,19 +176,19 @@ left c =
     ∙ c .finish .ensures
     ∙ ap (λ (y : Lent). lentWith y (finish (worldIn y) (t .loop .i))) (same t)
 
-lined : (c : tie.After-finish Inv-loop μ-loop Inv-rounds μ-rounds) → Lined (rowIn (c .finish .last .0))
-lined c =
+holding : (c : tie.After-finish Inv-loop μ-loop Inv-rounds μ-rounds) → QueueHeld (rowIn (c .finish .last .0))
+holding c =
     let d = of-slot (of-look (of-finish c)) .before in
     let t = turn d in
     let o = round t .rounds in
     let l = t .loop in
-    subst (λ (y : Lent). Lined (y .host .row)) (sym (left c))
-    (ready-lined _ (begun-next _ (lent t) (o .looks) (l .i) (l .looks + 1) (o .inv .0) (there d) (omega (arith, l .inv .4 .looks, there d, asleep-few (lent t) (o .inv .0 .ready))) .ready))
+    subst (λ (y : Lent). QueueHeld (y .host .row)) (sym (left c))
+    (ready-row _ (begun-next _ (lent t) (o .looks) (l .i) (l .looks + 1) (o .inv .0) (there d) (omega (arith, l .inv .4 .looks, there d, asleep-few (lent t) (o .inv .0 .ready))) .ready))
 
 mark-touched-requires : tie.Need-mark-touched-requires Inv-loop μ-loop Inv-rounds μ-rounds
 mark-touched-requires c κs =
     let f = c .before .before .before .before in
-    (round (turn (of-slot (of-look (of-finish f)) .before)) .before .pre .0, lined f)
+    (round (turn (of-slot (of-look (of-finish f)) .before)) .before .pre .0, holding f)
 
 abbrev Next : tie.After-mark-touched Inv-loop μ-loop Inv-rounds μ-rounds → Type 0
 Next c =

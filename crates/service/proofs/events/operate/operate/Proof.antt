@@ -17,7 +17,7 @@ use Rattle.service_table.specs.Written.{tabled}
 use Rattle.service_table.proofs.WrittenLaws.{sized-good, written-applied}
 use Rattle.service_waking.specs.Lent.{JudgedAs, treated}
 use Rattle.service_waking.proofs.LookLaws.{values-in, undo-read, judged-as}
-use Rattle.service.proofs.EventLaws.{held-invariant, held-lined, held-seated, refused-after, begun, begun-ready}
+use Rattle.service.proofs.EventLaws.{held-invariant, held-row, held-seated, refused-after, begun, begun-ready}
 use Rattle.service.proofs.events.operate.operate.Proof.Laws.{call-process, call-numbered, call-room, call-awake, call-few, done-lent, done-ready, done-after, sleep-after, again-after, range-after}
 use borrow.Author.Needs.{needs}
 use Rattle.service.proofs.events.operate.operate.Statement.{statement}
@@ -136,7 +136,7 @@ fall-asleep-requires c κs =
     let s = c .before .before .before .before .before .before .before .before .before .before .before .before .before .before .before .before .before in
     let z = none (c .before .before .before .before .before .before .before .before .before .before .before) in
     let e = slot (c .before .before .before .before .before .before .before .before .before .before) in
-    (held-lined (x s) (s .pre), (rw e (call-room (x s) (s .pre) _ _ _ z), (call-awake (x s) (s .pre) _ _ _ z, (call-few (x s) (s .pre) _ _ _ z, (omega (arith, slot-is (c .before .before .before .before .before .before .before .before .before .before)), call-numbered (x s) (s .pre) _ _ _ z)))))
+    (held-row (x s) (s .pre), (rw e (call-room (x s) (s .pre) _ _ _ z), (call-awake (x s) (s .pre) _ _ _ z, (call-few (x s) (s .pre) _ _ _ z, (omega (arith, slot-is (c .before .before .before .before .before .before .before .before .before .before)), call-numbered (x s) (s .pre) _ _ _ z)))))
 
 enum-told-3 : tie.Need-enum-told-3
 enum-told-3 c = search needs

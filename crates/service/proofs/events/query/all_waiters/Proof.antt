@@ -6,9 +6,9 @@ use lib.ListN.{length, getD}
 use borrow.Author.Needs.{needs}
 use Rattle.model.specs.State.{noSleeper}
 use Rattle.host.specs.Holding.{Host, hostIn, tableIn, queueIn}
-use Rattle.service_queue.proofs.LineLaws.{asleep-is}
+use Rattle.service_queue.proofs.QueueHeldLaws.{asleep-is}
 use Rattle.service.specs.Waiting.{waitsOf}
-use Rattle.service.proofs.EventLaws.{held-lined}
+use Rattle.service.proofs.EventLaws.{held-row}
 use Rattle.service.proofs.QueryLaws.{Walked, walked-none, walked-more, walked-by, walked-all, process-there, not-naming, names-here, waits-unconcerned}
 use Rattle.service.proofs.events.query.all_waiters.Statement.{statement}
 use Rattle.service.proofs.events.query.all_waiters.Tie as tie
@@ -26,7 +26,7 @@ abbrev of-loop : tie.At-loop Inv-loop μ-loop → tie.Start Inv-loop μ-loop
 of-loop c = c .before .before .before
 
 all-asleep : (c : tie.After-asleep-of Inv-loop μ-loop) → c .asleep-of .result ≡ length (queueIn (host (c .before) .row))
-all-asleep c = let s = c .before in c .asleep-of .ensures ∙ asleep-is (held-lined (host s) (s .pre .0))
+all-asleep c = let s = c .before in c .asleep-of .ensures ∙ asleep-is (held-row (host s) (s .pre .0))
 
 there : (c : tie.In-loop Inv-loop μ-loop) → c .before .loop .i < length (queueIn (host (of-loop (c .before)) .row))
 there c = rw (all-asleep (c .before .before .before)) at (c .loop-test .taken)
@@ -41,7 +41,7 @@ shl-mark-touched : tie.Need-shl-mark-touched Inv-loop μ-loop
 shl-mark-touched c = search needs
 
 mark-touched-requires : tie.Need-mark-touched-requires Inv-loop μ-loop
-mark-touched-requires c κs = let s = c .before in (s .pre .1 .0, held-lined (host s) (s .pre .0))
+mark-touched-requires c κs = let s = c .before in (s .pre .1 .0, held-row (host s) (s .pre .0))
 
 loop-holds : tie.Need-loop-holds Inv-loop μ-loop
 loop-holds c = walked-none

@@ -9,7 +9,7 @@ use Rattle.host.specs.Parts.{rowIn}
 use Rattle.host.specs.Holding.{Host, hostIn, stateIn, setAt}
 use Rattle.service_checks.proofs.FoundSets.{slot-within}
 use Rattle.service.proofs.EventLaws.{refused-after}
-use Rattle.service.proofs.SlotLaws.{removed-lined, removed}
+use Rattle.service.proofs.SlotLaws.{removed-row, removed}
 use borrow.Author.Needs.{needs}
 use Rattle.service.proofs.events.remove.remove.Statement.{statement}
 use Rattle.service.proofs.events.remove.remove.Tie as tie
@@ -62,7 +62,7 @@ clear-slot-requires c κs = rw (slot (c .before .before .before .before .before 
 remove-set-requires : tie.Need-remove-set-requires
 remove-set-requires c κs =
     let s = c .before .before .before .before .before .before .before .before .before .before .before .before .before .before .before .before in
-    (removed-lined (x s) (s .pre) _ (none (c .before .before .before .before .before .before .before .before .before .before .before)) (slot (c .before .before .before .before .before .before .before .before .before .before)) (generation (c .before .before .before .before .before .before .before)) (c .before .before .before .before .before .put-set .ensures) (c .before .before .clear-slot .ensures), c .before .before .before .before .before .before .before .before .before .before .before .before .before .before .clear .ensures)
+    (removed-row (x s) (s .pre) _ (none (c .before .before .before .before .before .before .before .before .before .before .before)) (slot (c .before .before .before .before .before .before .before .before .before .before)) (generation (c .before .before .before .before .before .before .before)) (c .before .before .before .before .before .put-set .ensures) (c .before .before .clear-slot .ensures), c .before .before .before .before .before .before .before .before .before .before .before .before .before .before .clear .ensures)
 
 told-requires : tie.Need-told-requires
 told-requires c κs = search needs

@@ -1,4 +1,4 @@
--- A row whose parts hold a queue: it is lined again after a change, one is taken out, and one joins.
+-- A row whose parts hold a queue: it does so again after a change, one is taken out, and one joins.
 use Prim.Native.Nat.{ℕ, _+_, _*_, _-_, _<_}
 use mathlib.Core.Path.{_≡_, refl, sym, ap, ap₂, subst, _∙_}
 use mathlib.Core.List.{List, [], _∷_, _++_}
@@ -9,7 +9,7 @@ use Rattle.model.specs.State.{Sleeper, noSleeper}
 use Rattle.model.specs.Waking.{without}
 use Rattle.host.specs.Parts.{Part, asleep, order, sleepsAt, sizes, arrays, Row, with, put}
 use Rattle.host.specs.Holding.{Kept, kept, withQueue, entry, queueIn}
-use Rattle.host.specs.Queue.{Room, Queued, Lined}
+use Rattle.host.specs.Queue.{Room, Queued, QueueHeld}
 use Rattle.host.proofs.PartLaws.{by-groups}
 use Rattle.host.proofs.ProcessLaws.{Awake}
 use Rattle.host.proofs.QueueRows.{order-at, slot-read, size-read, withEntry, emptied, taken, joinedBy, joined, queue-back}
@@ -26,16 +26,16 @@ module _ (r : Row) {r′ : Row} {q : List Sleeper} (e : r′ ≡ withQueue r q) 
   pub shows : queueIn r′ ≡ q
   shows = ap queueIn e ∙ queue-back r q f
 
-  pub lined-with : Lined r′
-  lined-with =
+  pub row-with : QueueHeld r′
+  row-with =
       record {
         holds = e ∙ sym (queue-again r q q) ∙ ap₂ withQueue (sym e) (sym shows);
         fits = subst Queued (sym shows) f;
       }
 
--- ---- what a lined row says
+-- ---- what such a row says
 
-module _ {r : Row} (k : Lined r) where
+module _ {r : Row} (k : QueueHeld r) where
   abbrev queue : List Sleeper
   queue = queueIn r
 
@@ -60,7 +60,7 @@ clearedOf p r = withEntry kept p (λ (k : Kept). 0) (with r arrays (sets (r arra
 abbrev shortened : ℕ → ℕ → Row → Row
 shortened at last r = put (with r order (movedUp (r order) at last)) asleep 0 last
 
-module _ {r r₁ r₂ : Row} {p : ℕ} (k : Lined r) (at : ℕ) (h : at < length (queueIn r)) (ep : p ≡ getD (r order) at 0)
+module _ {r r₁ r₂ : Row} {p : ℕ} (k : QueueHeld r) (at : ℕ) (h : at < length (queueIn r)) (ep : p ≡ getD (r order) at 0)
     (e₁ : r₁ ≡ with r arrays (sets (r arrays) (arrayBytes * entry p) (replicate arrayBytes 0))) (e₂ : r₂ ≡ withEntry kept p (λ (k : Kept). 0) r₁) where
   cleared : r₂ ≡ clearedOf p r
   cleared = e₂ ∙ ap (withEntry kept p (λ (k : Kept). 0)) e₁
@@ -87,7 +87,7 @@ module _ {r r₁ r₂ : Row} {p : ℕ} (k : Lined r) (at : ℕ) (h : at < length
 
 -- ---- one joins
 
-module _ {r r₁ r₂ : Row} {s : Sleeper} (k : Lined r) (room : Room s) (a : Awake (s .process) (queueIn r)) (h : length (queueIn r) < processes)
+module _ {r r₁ r₂ : Row} {s : Sleeper} (k : QueueHeld r) (room : Room s) (a : Awake (s .process) (queueIn r)) (h : length (queueIn r) < processes)
     (e₁ : r₁ ≡ with r arrays (sets (r arrays) (arrayBytes * entry (s .process)) (take arrayBytes (s .array))))
     (e₂ : r₂ ≡ withEntry kept (s .process) (λ (k : Kept). k .of s) r₁) where
   stored : r₂ ≡ withEntry kept (s .process) (λ (k : Kept). k .of s) (with r arrays (sets (r arrays) (arrayBytes * entry (s .process)) (take arrayBytes (s .array))))
