@@ -190,9 +190,6 @@ module _ {A : Type 0} where
 
 -- ---- the bytes of all arrays
 
-abbrev pub theArray : Sleeper → List ℕ
-theArray s = s .array
-
 abbrev pub arrayOf : ℕ → List Sleeper → List ℕ
 arrayOf p q = ofProcess [] (λ (s : Sleeper). s .array) p q
 

@@ -3,15 +3,14 @@ use Prim.Native.Nat.{ℕ, zero, suc, _+_, _<_}
 use native.Mathlib.Nat.{not-suc-le-zero, le-of-suc-le-suc, add-zero}
 use native.Mathlib.Omega.{arith}
 use mathlib.Core.Path.{_≡_, refl, sym, ap, _∙_}
-use mathlib.Core.Logic.{_≢_}
 use mathlib.Core.List.{List, map}
 use lib.ListN.{length, getD, List·getD-map}
-use lib.Seq.{getD-set-same, getD-set-other, ext-getD}
+use lib.Seq.{ext-getD}
 use Rattle.model.specs.declared.Set.{Set}
 use Rattle.model.specs.Limits.{slots}
 use Rattle.model.specs.State.{noSet}
 use Rattle.host.specs.Parts.{generations, counts, readers, alterers, Row}
-use Rattle.host.specs.Holding.{setAt, withSet, setsFrom, setsIn}
+use Rattle.host.specs.Holding.{setAt, setsFrom, setsIn}
 
 pub length-sets-in : (n : ℕ) (r : Row) (slot : ℕ) → length (setsFrom r slot n) ≡ n
 unfolding setsFrom
@@ -49,23 +48,3 @@ module _ {r : Row} {l : List Set} (k : Sets r l) where
   sets-back =
       ext-getD noSet (setsIn r) l (length-sets-in slots r 0 ∙ sym (k .size))
       (λ i h. set-in r i (omega (arith, length-sets-in slots r 0)) ∙ set-of i)
-
--- a set that is put into a slot
-set-put : (r : Row) (k : ℕ) (s : Set) (i : ℕ) → length (r generations) ≡ slots → length (r counts) ≡ slots → length (r readers) ≡ slots → length (r alterers) ≡ slots
-    → k < slots → setAt (withSet r k s) k ≡ s
-set-put r k s i a b c d h =
-    rw (
-      getD-set-same (r generations) k (s .generation) 0 (omega arith),
-      getD-set-same (r counts) k (s .count) 0 (omega arith),
-      getD-set-same (r readers) k (s .read) 0 (omega arith),
-      getD-set-same (r alterers) k (s .alter) 0 (omega arith),
-    )
-
-set-kept : (r : Row) (k : ℕ) (s : Set) (i : ℕ) → i ≢ k → setAt (withSet r k s) i ≡ setAt r i
-set-kept r k s i n =
-    rw (
-      getD-set-other (r generations) k i (s .generation) 0 n,
-      getD-set-other (r counts) k i (s .count) 0 n,
-      getD-set-other (r readers) k i (s .read) 0 n,
-      getD-set-other (r alterers) k i (s .alter) 0 n,
-    )

@@ -9,7 +9,7 @@ use mathlib.Core.Bool.{Bool, true, false, cond, _||_}
 use mathlib.Core.List.{List, [], _∷_}
 use borrow.Author.Tests.{ltb-false, leb-false, eqb-false, le-ltb, lt-leb, ne-eqb}
 use lib.Dec.{eqb, ltb, leb}
-use lib.ListN.{length, getD, set, take, drop, replicate, length-take, length-set, length-replicate}
+use lib.ListN.{length, getD, set, take, drop, replicate, length-take, length-set}
 use lib.Seq.{sets, take-take, take-nil, drop-drop, drop-cons, take-all}
 use Rattle.model.specs.Limits.{slots, semaphores, processes, arrayBytes, allAdjustments}
 use Rattle.model.specs.State.{undoRow}

@@ -1,7 +1,7 @@
 // The sleepers: their order, and by process what each sleeps with.
 ghost use mathlib.Core.Path.{_≡_};
 ghost use Prim.Native.Nat.{min, _*_};
-ghost use lib.ListN.{getD, take, drop, replicate};
+ghost use lib.ListN.{getD, take, replicate};
 ghost use lib.Seq.{sets};
 ghost use Rattle.model.specs.Limits.{arrayBytes};
 ghost use Rattle.host.specs.Parts.{asleep, order, sleepsAt, sizes, names, arrays, rowIn, with, put};

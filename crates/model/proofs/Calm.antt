@@ -17,14 +17,13 @@ use Rattle.model.specs.Waking.{World, Ended, Waker, waker, finish, plain
 use Rattle.model.specs.Checks.{live}
 use Rattle.model.specs.Counts.{countOf}
 use Rattle.model.specs.Events.{treat, treatFrom}
-use Rattle.model.specs.Runs.{All}
 use Rattle.model.proofs.Lists.{all-at, all-without}
-use Rattle.model.specs.Invariant.{Good, Fits, Distinct, Calm}
+use Rattle.model.specs.Invariant.{Fits, Calm}
 use Rattle.model.proofs.JudgeLaws.{either}
 use Rattle.model.proofs.LookLaws.{look-fine, after-good}
 use Rattle.model.proofs.QueueLaws.{distinct-without}
 use Rattle.model.proofs.WakingLaws.{finish-length, finish-wakings}
-use Rattle.model.proofs.Rules.{sumTo, Looked, plain-keeps, quick-keeps, plain-looked, quick-looked, sumTo-mono, sumTo-add, sumTo-8, count-fewer, count-length, Kept, Tame, tame}
+use Rattle.model.proofs.Rules.{sumTo, Looked, plain-looked, quick-looked, sumTo-mono, sumTo-add, sumTo-8, count-fewer, count-length, Kept, Tame, tame}
 
 module _ {sets : List Set} where
   pub finish-calm : (w : World) (i : ℕ) → Calm sets w → i < length (w .queue) → Calm sets (finish w i)
@@ -42,27 +41,9 @@ module _ {sets : List Set} where
   calm-kept : (slot : ℕ) → Kept slot (Calm sets)
   calm-kept slot w i c h mi e = finish-calm w i c h
 
-  -- a waking keeps it, and so does the treatment of one set and of several
-  pub plain-calm : (slot n : ℕ) (w : World) (l : ℕ) → Calm sets w → Calm sets (plain n slot w l .world)
-  plain-calm slot n w l = plain-keeps slot n 0 w l (Calm sets) (calm-kept slot)
-
-  pub quick-calm : (slot n m : ℕ) (w : World) (l : ℕ) → Calm sets w → Calm sets (quick n slot m w l .world)
-  quick-calm slot n m w l = quick-keeps slot n m w l (Calm sets) (calm-kept slot)
-
+  -- a waking keeps it
   pub wake-calm : (engine : Engine) (slot touched : ℕ) (w : World) (l : ℕ) → Calm sets w → Calm sets (waker engine slot touched w l .world)
   wake-calm engine slot touched w l = tame engine .keeps slot touched w l (Calm sets) (calm-kept slot)
-
-  pub treat-calm : (engine : Engine) (lives : List Set) (slot touched : ℕ) (e : Ended) → Calm sets (e .world) → Calm sets (treat (waker engine) lives slot touched e .world)
-  unfolding treat
-  treat-calm engine lives slot touched e c =
-      either (λ (e : Ended). Calm sets (e .world)) (live lives slot) _ _ (wake-calm engine slot touched (e .world) (e .looks) c) c
-
-  pub treatFrom-calm : (engine : Engine) (lives : List Set) (slot : ℕ) (touches : List ℕ) (e : Ended) → Calm sets (e .world)
-      → Calm sets (treatFrom (waker engine) lives slot touches e .world)
-  unfolding treatFrom
-  treatFrom-calm engine lives slot [] e c = c
-  treatFrom-calm engine lives slot (touched ∷ touches) e c =
-      treatFrom-calm engine lives (slot + 1) touches (treat (waker engine) lives slot touched e) (treat-calm engine lives slot touched e c)
 
 -- ---- looks
 

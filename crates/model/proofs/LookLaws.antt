@@ -23,7 +23,7 @@ use Rattle.model.specs.Runs.{All}
 use Rattle.model.proofs.Lists.{all-map, all-zip, all-zip3, all-getD, all-slice, all-paste, getD-slice, getD-paste-beside}
 use Rattle.model.specs.Invariant.{Good, Fits, Other, countAt}
 use Rattle.model.proofs.Bits.{bit}
-use Rattle.model.proofs.MarkLaws.{untouched, differing-off, named-lt, differing-lt}
+use Rattle.model.proofs.MarkLaws.{untouched, differing-off}
 use Rattle.model.proofs.JudgeLaws.{either, Fine, judge-fine, Alike, Agreed, judge-local}
 
 -- ---- the copies
@@ -36,10 +36,6 @@ module _ (t : Table) (g : Good t) where
   pub length-adjustments : (p slot : ℕ) → 1 ≤ p → p ≤ processes → slot < slots → length (adjustmentsOf t p slot) ≡ semaphores
   unfolding adjustmentsOf
   length-adjustments p slot hp hq h = length-slice (undoRow p slot) (undoRow p slot + semaphores) (t .adjustments) (omega (arith, g .adjustments)) ∙ omega arith
-
-  -- the mask of the values of a set that differ is a byte
-  pub differing-byte : (slot : ℕ) (vs : List ℕ) → slot < slots → differing 0 0 (valuesOf t slot) vs < 256
-  differing-byte slot vs h = differing-lt semaphores 0 0 (valuesOf t slot) vs (omega arith) (omega (arith, length-values slot h))
 
 pub getD-values : (t : Table) (slot n : ℕ) → n < semaphores → getD (valuesOf t slot) n 0 ≡ getD (t .values) (row slot + n) 0
 unfolding valuesOf
@@ -112,10 +108,6 @@ module _ {sets : List Set} (counts : All (λ (k : Set). k .count ≤ semaphores)
 
   pub numbers-fit : (s : Sleeper) → Fits sets s → All (λ (o : Operation). o .number < semaphores) (operationsOf (s .array))
   numbers-fit s f = all-map (λ o h. omega (arith, h, count-fits (s .slot))) (f .numbers)
-
-  -- the mask of the semaphores that an array names is a byte
-  pub named-byte : (s : Sleeper) → Fits sets s → named s < 256
-  named-byte s f = named-lt semaphores 0 (operationsOf (s .array)) (omega arith) (numbers-fit s f)
 
   module _ (t t′ : Table) (s : Sleeper) (g : Good t) (g′ : Good t′) (f : Fits sets s) where
     pub look-same : All (SameValue t t′ s) (operationsOf (s .array)) → All (SameUndo t t′ s) (operationsOf (s .array)) → Agreed (look t s) (look t′ s)

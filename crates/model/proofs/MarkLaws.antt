@@ -1,24 +1,21 @@
--- Masks of processes and of semaphores: who is marked, what is named, which values differ; and that they stay below 2 ^ 8.
-use Prim.Native.Nat.{ℕ, zero, suc, _+_, _-_, _^_, _≤_, _<_}
+-- Masks of processes and of semaphores: who is marked, what is named, which values differ.
+use Prim.Native.Nat.{ℕ, zero, suc, _+_, _-_, _^_, _≤_}
 use native.Mathlib.Nat.{suc-inj, suc-ne-zero}
 use native.Mathlib.Omega.{arith}
 use mathlib.Core.Path.{_≡_, refl, sym, ap, _∙_}
 use mathlib.Core.Bool.{Bool, true, false, cond}
 use mathlib.Core.List.{List, [], _∷_}
 use lib.Dec.{eqb}
-use lib.Pow.{pow-lt}
-use lib.Bits.{bitOr, or-lt, xor-lt}
+use lib.Bits.{bitOr}
 use lib.ListN.{length, getD}
 use borrow.Author.Tests.{eqb-true, eq-eqb}
-use Rattle.model.specs.declared.Set.{Set}
 use Rattle.model.specs.declared.Operation.{Operation}
-use Rattle.model.specs.Limits.{processes}
 use Rattle.model.specs.State.{Sleeper}
 use Rattle.model.specs.Operation.{operationsOf, hasBit}
 use Rattle.model.specs.Marks.{bitOf, marked, unmark, namedBy, named, differing, maskOf}
 use Rattle.model.specs.Runs.{All, none, also}
-use Rattle.model.proofs.Lists.{first, rest, all-map}
-use Rattle.model.specs.Invariant.{Fits, Other}
+use Rattle.model.proofs.Lists.{all-map}
+use Rattle.model.specs.Invariant.{Other}
 use Rattle.model.proofs.Bits.{bit, bit-or-same, bit-or-keeps, bit-xor-other, bit-xor-same, hasBit-bit, hasBit-none}
 
 -- ---- marks
@@ -133,45 +130,3 @@ differing-off m i (x ∷ xs) (y ∷ ys) zero e h = go (eqb x y) refl h
 differing-off m i (x ∷ xs) (y ∷ ys) (suc j) e h =
     let z : i + suc j ≡ i + 1 + j = omega arith in
     differing-off (cond (eqb x y) m (bitOr m (2 ^ i))) (i + 1) xs ys j (suc-inj e) (rw z at h)
-
--- ---- masks stay below 2 ^ k
-
-module _ (k : ℕ) where
-  or-bit-lt : (m n : ℕ) → m < 2 ^ k → n < k → bitOr m (2 ^ n) < 2 ^ k
-  or-bit-lt m n h hn = or-lt k m (2 ^ n) h (pow-lt hn)
-
-  pub unmark-lt : (m : ℕ) (s : Sleeper) → m < 2 ^ k → s .process - 1 < k → unmark m s < 2 ^ k
-  unfolding unmark
-  unmark-lt m s h hs = xor-lt k m (bitOf (s .process)) h (pow-lt hs)
-
-  pub mask-lt : (test : Sleeper → Bool) (m : ℕ) (q : List Sleeper) → m < 2 ^ k → All (λ (s : Sleeper). s .process - 1 < k) q → maskOf test m q < 2 ^ k
-  unfolding maskOf
-  mask-lt test m [] h a = h
-  mask-lt test m (s ∷ q) h a = mask-lt test (cond (test s) (bitOr m (bitOf (s .process))) m) q (go (test s)) (rest a)
-    where
-      go : (b : Bool) → cond b (bitOr m (bitOf (s .process))) m < 2 ^ k
-      go true = or-bit-lt m (s .process - 1) h (first a)
-      go false = h
-
-  pub named-lt : (m : ℕ) (os : List Operation) → m < 2 ^ k → All (λ (o : Operation). o .number < k) os → namedBy m os < 2 ^ k
-  unfolding namedBy
-  named-lt m [] h a = h
-  named-lt m (o ∷ os) h a = named-lt (bitOr m (2 ^ (o .number))) os (or-bit-lt m (o .number) h (first a)) (rest a)
-
-  pub differing-lt : (m i : ℕ) (xs ys : List ℕ) → m < 2 ^ k → i + length xs ≤ k → differing m i xs ys < 2 ^ k
-  unfolding differing
-  differing-lt m i [] ys h a = h
-  differing-lt m i (x ∷ xs) [] h a = h
-  differing-lt m i (x ∷ xs) (y ∷ ys) h a = differing-lt (cond (eqb x y) m (bitOr m (2 ^ i))) (i + 1) xs ys (go (eqb x y)) (omega arith)
-    where
-      go : (b : Bool) → cond b m (bitOr m (2 ^ i)) < 2 ^ k
-      go true = h
-      go false = or-bit-lt m i h (omega arith)
-
--- the marks of sleepers are a byte
-module _ {sets : List Set} where
-  pub unmark-byte : (m : ℕ) (s : Sleeper) → m < 256 → Fits sets s → unmark m s < 256
-  unmark-byte m s h f = unmark-lt processes m s h (omega (arith, f .process, f .last))
-
-  pub mask-byte : (test : Sleeper → Bool) (m : ℕ) (q : List Sleeper) → m < 256 → All (Fits sets) q → maskOf test m q < 256
-  mask-byte test m q h f = mask-lt processes test m q h (all-map (λ s k. omega (arith, k .process, k .last)) f)

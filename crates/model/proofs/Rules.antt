@@ -137,13 +137,6 @@ seen-own slot m s e = go (mine slot s) e
     go true e = refl
     go false e = e
 
-module _ (t : Table) (slot : ℕ) (q : List Sleeper) (i l m : ℕ) where
-  pub plain-fair : Fair t slot q i l (plainRound t slot q i l m)
-  plain-fair = rw (plain-scan t slot q i l m) (scan-fair t slot _ _ (λ m s e. e) q i l m)
-
-  pub quick-fair : Fair t slot q i l (quickRound t slot q i l m)
-  quick-fair = rw (quick-scan t slot q i l m) (scan-fair t slot _ _ (seen-own slot) q i l m)
-
 -- ---- a rule: rounds until one finishes nobody; how the marks change between them is its third parameter
 
 module _ (sees : ℕ → Sleeper → Bool) (off : ℕ → Sleeper → ℕ) (marks : World → World → ℕ → ℕ) where

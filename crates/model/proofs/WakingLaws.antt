@@ -7,7 +7,7 @@ use mathlib.Core.List.{List, [], _∷_}
 use lib.ListN.{length, getD, drop, length-append, drop-of-length-le}
 use Rattle.model.specs.State.{Table, Sleeper, noSleeper}
 use Rattle.model.specs.Marks.{mine, marked, unmark}
-use Rattle.model.specs.Waking.{World, nobody, finished, couldFinish, without, finish, plainRound, both, quickRound, plain, remark, quick}
+use Rattle.model.specs.Waking.{World, nobody, finished, couldFinish, finish, plainRound, both, quickRound, plain, remark, quick}
 use Rattle.model.proofs.Lists.{drop-at, length-without}
 
 -- nobody who is not marked is looked at
@@ -60,10 +60,6 @@ module _ (t : Table) (slot : ℕ) (q : List Sleeper) (i l m : ℕ) where
     quick-finishes e f g = rw (drop-at q i noSleeper h, quickRound, e, f, g)
 
 -- ---- a sleeper is finished
-
-pub finish-queue : (w : World) (i : ℕ) → finish w i .queue ≡ without (w .queue) i
-unfolding finish
-finish-queue w i = refl
 
 pub finish-length : (w : World) (i : ℕ) → i < length (w .queue) → length (finish w i .queue) + 1 ≡ length (w .queue)
 unfolding finish

@@ -1,10 +1,10 @@
 -- "Wait counts are worked out, not stored".
 use Prim.Native.Nat.{ℕ, _+_}
-use mathlib.Core.Bool.{Bool, true, false, cond, not, _&&_}
+use mathlib.Core.Bool.{Bool, cond, not, _&&_}
 use mathlib.Core.List.{List, [], _∷_}
 use lib.Dec.{eqb}
 use lib.ListN.{getD}
-use lib.IntN.{ℤ, pos}
+use lib.IntN.{pos}
 use Rattle.model.specs.declared.Operation.{Operation}
 use Rattle.model.specs.State.{Table, Sleeper}
 use Rattle.model.specs.Operation.{operationsOf, isNegative}

@@ -1,11 +1,11 @@
 -- The seven events. The engines differ in the waker only.
-use Prim.Native.Nat.{ℕ, zero, suc, _+_, _*_, _-_, _%_, _^_}
+use Prim.Native.Nat.{ℕ, zero, suc, _+_, _%_, _^_}
 use mathlib.Core.Bool.{Bool, true, false, cond, not}
 use mathlib.Core.List.{List, [], _∷_, _++_}
-use lib.Dec.{eqb, ltb}
+use lib.Dec.{eqb}
 use lib.ListN.{getD, set, replicate}
 use lib.Seq.{slice, paste}
-use lib.IntN.{ℤ, pos, negsuc, natAbs, _+ℤ_}
+use lib.IntN.{ℤ, pos, natAbs, _+ℤ_}
 use lib.Signed.{ltZ}
 use Rattle.model.specs.declared.Set.{Set}
 use Rattle.model.specs.declared.Outcome.{Outcome}
@@ -14,7 +14,7 @@ use Rattle.model.specs.declared.Copies.{Copies}
 use Rattle.model.specs.declared.Waking.{Waking}
 use Rattle.model.specs.declared.Event as declared
 use Rattle.model.specs.declared.Event.the-variants.{Create, Operate, SetValue, Remove, Signal, Exit, Query}
-use Rattle.model.specs.Limits.{slots, semaphores, processes, valueMax, allSemaphores}
+use Rattle.model.specs.Limits.{slots, processes, valueMax, allSemaphores}
 use Rattle.model.specs.State.{Table, withValues, withAdjustments, Sleeper, State, row, undoRow, cleared, freeSet, noSet}
 use Rattle.model.specs.Judge.{codeOf}
 use Rattle.model.specs.Look.{look, applied, valuesOf}

@@ -1,6 +1,6 @@
 -- "A look judges a sleeper's array on the present state"; what an array that is done does to the table.
 use Prim.Native.Nat.{ℕ, _+_}
-use mathlib.Core.Bool.{Bool, true, false, cond}
+use mathlib.Core.Bool.{cond}
 use mathlib.Core.List.{List, [], _∷_}
 use lib.ListN.{set}
 use lib.Seq.{slice, paste}

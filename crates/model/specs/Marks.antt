@@ -1,8 +1,8 @@
 -- Masks: marks have a bit for each process, touched and named semaphores a bit for each number of a set.
-use Prim.Native.Nat.{ℕ, suc, _+_, _-_, _^_}
-use mathlib.Core.Bool.{Bool, true, false, cond, _&&_}
+use Prim.Native.Nat.{ℕ, _+_, _-_, _^_}
+use mathlib.Core.Bool.{Bool, cond, _&&_}
 use mathlib.Core.List.{List, [], _∷_}
-use lib.Bits.{bitAnd, bitOr, bitXor}
+use lib.Bits.{bitOr, bitXor}
 use lib.Dec.{eqb}
 use Rattle.model.specs.declared.Operation.{Operation}
 use Rattle.model.specs.State.{Sleeper}

@@ -85,9 +85,6 @@ module _ (x : Host) (k : Held x) (i : ℤ) (z : checkRemove (stateIn x) i ≡ 0)
     abbrev free : Set
     free = freeSet g
 
-    abbrev none-left : Table
-    none-left = cleared (tableIn x) slot
-
     there : y ≡ record { row = withTable (withSet (x .row) slot (freeSet g)) (cleared (tableIn x) slot); adjustments = cleared (tableIn x) slot .adjustments }
     there = ey ∙ ap (λ (a : Row). tabled (record { row = a; adjustments = x .adjustments }) (cleared (tableIn (record { row = a; adjustments = x .adjustments })) slot)) er
 

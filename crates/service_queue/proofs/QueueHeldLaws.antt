@@ -7,12 +7,12 @@ use lib.Seq.{sets}
 use Rattle.model.specs.Limits.{processes, arrayBytes}
 use Rattle.model.specs.State.{Sleeper, noSleeper}
 use Rattle.model.specs.Waking.{without}
-use Rattle.host.specs.Parts.{Part, asleep, order, sleepsAt, sizes, arrays, Row, with, put}
+use Rattle.host.specs.Parts.{Part, asleep, order, sleepsAt, arrays, Row, with, put}
 use Rattle.host.specs.Holding.{Kept, kept, withQueue, entry, queueIn}
 use Rattle.host.specs.Queue.{Room, Queued, QueueHeld}
 use Rattle.host.proofs.PartLaws.{by-groups}
 use Rattle.host.proofs.ProcessLaws.{Awake}
-use Rattle.host.proofs.QueueRows.{order-at, slot-read, size-read, withEntry, emptied, taken, joinedBy, joined, queue-back}
+use Rattle.host.proofs.QueueRows.{order-at, slot-read, withEntry, emptied, taken, joinedBy, joined, queue-back}
 use Rattle.service_queue.specs.Seated.{movedUp}
 use Rattle.service_queue.proofs.MovingLaws.{order-moved}
 

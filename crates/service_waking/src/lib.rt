@@ -28,7 +28,6 @@ use host::process_at;
 use host::set_at;
 use host::slot_at;
 use host::values_of;
-use judging::Verdict;
 use judging::altered_of;
 use judging::finishes;
 use judging::judge;
@@ -208,7 +207,8 @@ pub fn mark_touched(host: &[u8; HOST_BYTES], slot: usize, touched: u8, marks: u8
 }
 
 // "A round looks at marked sleepers only, oldest first, and each look takes the mark off. A sleeper that is finished marks
-// those who name a semaphore whose value it changed, and a new round begins."
+// those who name a semaphore whose value it changed, and a new round begins." Where no mark is left nobody is looked at, so a
+// round ends there.
 fn wake_quick(
     host: &mut [u8; HOST_BYTES],
     adjustments: &mut [i16; ALL_ADJUSTMENTS],

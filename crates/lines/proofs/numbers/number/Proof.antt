@@ -1,9 +1,7 @@
 -- `lines::numbers::number` meets its contract: a longer number is what stands before its last two digits, and these.
-use Prim.Native.Nat.{_+_, _/_, _%_, _≤_, _<_}
+use Prim.Native.Nat.{_/_, _<_}
 use native.Mathlib.Omega.{arith}
-use lib.ListN.{length}
 use borrow.Author.Needs.{needs}
-use Rattle.lines.specs.Text.{digitsOf}
 use Rattle.lines.proofs.Digits.{digits-two, digits-hundreds, count-one, count-two, count-hundreds}
 use Rattle.lines.proofs.Writing.{then, put-length}
 use Rattle.lines.proofs.numbers.number.Statement.{statement}

@@ -12,7 +12,7 @@ use Rattle.model.specs.declared.Engine.{Engine}
 use Rattle.model.specs.declared.Told.{Told}
 use Rattle.model.specs.declared.Waking.{Waking}
 use Rattle.model.specs.Limits.{semaphores}
-use Rattle.model.specs.State.{State, Table}
+use Rattle.model.specs.State.{State}
 use Rattle.model.specs.Checks.{check, inRange, slotOf, checkSetValue, checkNumber}
 use Rattle.model.specs.Waking.{waker}
 use Rattle.model.specs.Events.{assigned, doSetValue}
@@ -41,10 +41,6 @@ module _ (x : Host) (k : Held x) (i : ℤ) (n : ℕ) (v : ℤ) (z : checkSetValu
 
   pub set-number : n < semaphores
   set-number = omega (arith, set-passed .numbered .number, held-counts x k (slotOf i))
-
-  -- the table that it leaves
-  abbrev pub setTable : Table
-  setTable = assigned (tableIn x) (slotOf i) n (natAbs v)
 
   good : Good (assigned (tableIn x) (slotOf i) n (natAbs v))
   good = assigned-good (tableIn x) (slotOf i) n (natAbs v) (held-invariant x k .good) (set-passed .value)
