@@ -10,7 +10,7 @@ use borrow.Author.Tests.{eqb-true, eqb-false, eq-eqb, ltb-true, ltb-false}
 use lib.Dec.{eqb, ltb}
 use lib.ListN.{length, getD, set, List·getD-eq-default, List·getD-map}
 use lib.Seq.{sets, set-out}
-use Rattle.host.specs.Parts.{Part, arrays, ofSets, ofTable, ofQueue, parts, part, listed, number, Shape, table, placeFrom, place, behind, hostBytes, numberAt, bytesOf, Row, rowIn, with, put}
+use Rattle.host.specs.Parts.{Part, arrays, ofSets, ofTable, ofQueue, parts, part, listed, number, Shape, shapes, placeFrom, place, behind, hostBytes, numberAt, bytesOf, Row, rowIn, with, put}
 use Rattle.host.proofs.Numbers.{Wrote, stored, number-stored, length-numbers, numbers-at, numbers-beyond, numbers-set, under, over}
 
 -- a function is known by its values
@@ -35,10 +35,10 @@ told-apart : (p q : Part) → number p ≡ number q → p ≡ q
 told-apart p q e = sym (listed p .stands) ∙ ap part e ∙ listed q .stands
 
 -- there are no more of them than the table has
-few : (p : Part) → number p < length table
-few p = ⊎-elim (λ a. a) (λ b. absurd (none b)) (less-or-not (number p) (length table))
+few : (p : Part) → number p < length shapes
+few p = ⊎-elim (λ a. a) (λ b. absurd (none b)) (less-or-not (number p) (length shapes))
   where
-    none : length table ≤ number p → ⊥
+    none : length shapes ≤ number p → ⊥
     none b = omega (arith, ap number (sym (List·getD-eq-default parts arrays b) ∙ listed p .stands))
 
 -- a row is known by its parts, or by those of the sets, of the table and of the queue
@@ -70,8 +70,8 @@ count-at d zero a i l = absurd (not-suc-le-zero l)
 count-at d (suc n) a zero l = omega arith
 count-at d (suc n) a (suc i) l = count-at d n (suc a) i (le-of-suc-le-suc l) ∙ omega arith
 
-pub numbered : (n : ℕ) → n < length table → number (part n) ≡ n
-numbered n l = sym (List·getD-map number parts n arrays) ∙ count-at (number arrays) (length table) 0 n l ∙ omega arith
+pub numbered : (n : ℕ) → n < length shapes → number (part n) ≡ n
+numbered n l = sym (List·getD-map number parts n arrays) ∙ count-at (number arrays) (length shapes) 0 n l ∙ omega arith
 
 -- ---- the places are in order
 
@@ -87,10 +87,10 @@ ordered a (s ∷ t) zero (suc j) l m = later (a + s .width * s .count) t j
 ordered a (s ∷ t) (suc i) (suc j) l m = ordered (a + s .width * s .count) t i j (le-of-suc-le-suc l) (le-of-suc-le-suc m)
 
 before : (p q : Part) → number p < number q → behind (place p) ≤ place q .at
-before p q l = ordered 0 table (number p) (number q) l (few q)
+before p q l = ordered 0 shapes (number p) (number q) l (few q)
 
 pub inside : (p : Part) → behind (place p) ≤ hostBytes
-inside p = ⊎-elim (λ a. omega (arith, before p arrays a)) (λ b. subst (λ (n : ℕ). behind (placeFrom 0 table n) ≤ hostBytes) (last b) (omega arith)) (less-or-not (number p) (number arrays))
+inside p = ⊎-elim (λ a. omega (arith, before p arrays a)) (λ b. subst (λ (n : ℕ). behind (placeFrom 0 shapes n) ≤ hostBytes) (last b) (omega arith)) (less-or-not (number p) (number arrays))
   where
     last : number arrays ≤ number p → number arrays ≡ number p
     last b = omega (arith, few p)

@@ -7,7 +7,7 @@ use mathlib.Core.Logic.{⊎-elim}
 use mathlib.Core.List.{List, [], _∷_}
 use lib.ListN.{length, getD}
 use lib.Seq.{ext-getD}
-use Rattle.host.specs.Parts.{part, Shape, table, Place, placeFrom, hostBytes, numberAt, numbersFrom, Row, rowIn}
+use Rattle.host.specs.Parts.{part, Shape, shapes, Place, placeFrom, hostBytes, numberAt, numbersFrom, Row, rowIn}
 use Rattle.host.proofs.Numbers.{numbers-at}
 use Rattle.host.proofs.PartLaws.{less-or-not, numbered}
 
@@ -60,7 +60,7 @@ module _ (h h′ : List ℕ) (b : Bytes h) (b′ : Bytes h′) where
 
   pub whole : length h′ ≡ hostBytes → length h ≡ hostBytes → rowIn h′ ≡ rowIn h → h′ ≡ h
   unfolding rowIn
-  whole n′ n e = ext-getD 0 h′ h (n′ ∙ sym n) (λ j l. shapes-say table 0 all j (omega arith) (omega arith))
+  whole n′ n e = ext-getD 0 h′ h (n′ ∙ sym n) (λ j l. shapes-say shapes 0 all j (omega arith) (omega arith))
     where
-      all : (n : ℕ) → n < length table → Same (placeFrom 0 table n)
-      all n l = subst (λ (m : ℕ). Same (placeFrom 0 table m)) (numbered n l) (ap (λ (r : Row). r (part n)) e)
+      all : (n : ℕ) → n < length shapes → Same (placeFrom 0 shapes n)
+      all n l = subst (λ (m : ℕ). Same (placeFrom 0 shapes m)) (numbered n l) (ap (λ (r : Row). r (part n)) e)

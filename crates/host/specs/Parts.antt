@@ -76,8 +76,8 @@ abbrev pub shape : ℕ → ℕ → Shape
 shape width count = record { width = width; count = count }
 
 -- in the same order
-abbrev pub table : List Shape
-table =
+abbrev pub shapes : List Shape
+shapes =
     shape 2 slots
     ∷ shape 1 slots
     ∷ shape 1 slots
@@ -103,7 +103,7 @@ placeFrom at (s ∷ ss) zero = record { at = at; shape = s }
 placeFrom at (s ∷ ss) (suc n) = placeFrom (at + s .width * s .count) ss n
 
 abbrev pub place : Part → Place
-place p = placeFrom 0 table (number p)
+place p = placeFrom 0 shapes (number p)
 
 abbrev pub behind : Place → ℕ
 behind p = p .at + p .shape .width * p .shape .count

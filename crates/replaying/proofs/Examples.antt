@@ -14,7 +14,7 @@ use Rattle.model.specs.State.{clearRows, cleared}
 use Rattle.model.specs.Events.{doCreate, operated, doOperate, event}
 use Rattle.model.specs.Runs.{run}
 use Rattle.runfile.specs.Fields.{wordAt, signed32}
-use Rattle.runfile.specs.Table.{countOf, entriesFrom, chains}
+use Rattle.runfile.specs.Table.{countIn, entriesFrom, chains}
 use Rattle.runfile.specs.Body.{sizeOf, sizeIn, operationsIn, eventIn, bodyCode}
 use Rattle.runfile.specs.File.{fileOf, eventsOf, bad}
 use Rattle.runfile.proofs.Examples.{example}
@@ -30,7 +30,7 @@ text =
     ∷ 50 ∷ 32 ∷ 48 ∷ 32 ∷ 48 ∷ 32 ∷ 49 ∷ 32 ∷ 49 ∷ 61 ∷ 48 ∷ 10 ∷ []
 
 whole-example : (engine : Engine) → replayed engine example ≡ text
-unfolding firstLine eventsIn textOfFile textOf lineOf eventText wakingsText wakingText wordLine signedOf digitsOf digitsIn fileOf eventsOf bodyCode eventIn operationsIn sizeIn sizeOf chains entriesFrom countOf signed32 wordAt run event doCreate operated doOperate identifierOf slotOf namesSet noProcess asleep numberTooHigh permitted freeFrom checkCreate checkOperate clearRows cleared waker plain quick plainRound quickRound finish without look lastsAfter applied after valuesOf adjustmentsOf judgeFrom goOn step nextValue nextAdjustment codeOf finishes operationsFrom signed16 isZero unmark marked namedBy differing mine maskOf
+unfolding firstLine eventsIn textOfFile textOf lineOf eventText wakingsText wakingText wordLine signedOf digitsOf digitsIn fileOf eventsOf bodyCode eventIn operationsIn sizeIn sizeOf chains entriesFrom countIn signed32 wordAt run event doCreate operated doOperate identifierOf slotOf namesSet noProcess asleep numberTooHigh permitted freeFrom checkCreate checkOperate clearRows cleared waker plain quick plainRound quickRound finish without look lastsAfter applied after valuesOf adjustmentsOf judgeFrom goOn step nextValue nextAdjustment codeOf finishes operationsFrom signed16 isZero unmark marked namedBy differing mine maskOf
 whole-example Plain = refl
 whole-example Quick = refl
 

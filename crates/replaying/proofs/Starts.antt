@@ -4,7 +4,7 @@ use mathlib.Core.Path.{_≡_, _∙_}
 use mathlib.Core.List.{List}
 use Rattle.model.specs.State.{freshState}
 use Rattle.host.specs.Holding.{hostOf}
-use Rattle.runfile.specs.Table.{tableEnd, countOf}
+use Rattle.runfile.specs.Table.{tableEnd, countIn}
 use Rattle.runfile.specs.File.{codeOfFile}
 use Rattle.runfile.proofs.Walk.{good-events, bad-code}
 use Rattle.lines.specs.Text.{headLine, badLine}
@@ -22,8 +22,8 @@ module _ (file : List ℕ) (out : List ℕ) {out′ : List ℕ} {next : ℕ} whe
       rw (start-bad file no, bad-code file no, ← c, ← w)
 
   -- a good one: the number of its events, and all of them are left
-  pub good-begun : {n : ℕ} → codeOfFile file ≡ 0 → n ≡ countOf file → (next, out′) ≡ putLine out 0 (headLine n)
+  pub good-begun : {n : ℕ} → codeOfFile file ≡ 0 → n ≡ countIn file → (next, out′) ≡ putLine out 0 (headLine n)
       → wrote (stage (hostOf freshState) 0 n (tableEnd n)) next out′ ≡ begun file out
   unfolding begun firstLine
   good-begun g e w =
-      rw (start-good file g, good-events file g, length-events file (tableEnd (countOf file)) (countOf file), ← e, ← w)
+      rw (start-good file g, good-events file g, length-events file (tableEnd (countIn file)) (countIn file), ← e, ← w)

@@ -9,7 +9,7 @@ use Rattle.model.specs.State.{freshState}
 use Rattle.model.specs.Runs.{came, run}
 use Rattle.host.specs.Holding.{Host, hostOf, stateIn, Held}
 use Rattle.host.proofs.HeldLaws.{state-back, held-fresh, held-next}
-use Rattle.runfile.specs.Table.{fileMax, tableEnd, countOf}
+use Rattle.runfile.specs.Table.{fileMax, tableEnd, countIn}
 use Rattle.runfile.specs.Body.{eventAt, nextAt, eventsFrom}
 use Rattle.runfile.specs.File.{codeOfFile}
 use Rattle.runfile.proofs.Walk.{Bodies, within, is-good, good-events, good-bodies, bad-code, events-turn, bodies-turn}
@@ -43,9 +43,9 @@ module _ (file : List ℕ) where
   unfolding startOf eventsIn
   start-bad h = rw (bad-code file h)
 
-  pub start-good : codeOfFile file ≡ 0 → startOf file ≡ stage (hostOf freshState) 0 (countOf file) (tableEnd (countOf file))
+  pub start-good : codeOfFile file ≡ 0 → startOf file ≡ stage (hostOf freshState) 0 (countIn file) (tableEnd (countIn file))
   unfolding startOf eventsIn
-  start-good h = rw (good-events file h, length-events file (tableEnd (countOf file)) (countOf file))
+  start-good h = rw (good-events file h, length-events file (tableEnd (countIn file)) (countIn file))
 
   start-ready : (code : ℕ) → codeOfFile file ≡ code → Ready file (startOf file)
   start-ready zero h =

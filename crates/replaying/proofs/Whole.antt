@@ -11,7 +11,7 @@ use Rattle.model.specs.declared.Engine.{Engine}
 use Rattle.model.specs.State.{freshState}
 use Rattle.model.specs.Runs.{start, run}
 use Rattle.host.proofs.HeldLaws.{state-back}
-use Rattle.runfile.specs.Table.{tableEnd, countOf}
+use Rattle.runfile.specs.Table.{tableEnd, countIn}
 use Rattle.runfile.specs.Body.{eventsFrom}
 use Rattle.runfile.specs.File.{fileOf, codeOfFile}
 use Rattle.runfile.proofs.Walk.{good-events, bad-code}
@@ -112,7 +112,7 @@ module _ (engine : Engine) (file : List ℕ) where
 
   start-rest : (code : ℕ) → codeOfFile file ≡ code → rest engine file (startOf file) ≡ textOf 0 (eventsIn (fileOf file)) (run engine freshState (eventsIn (fileOf file)) .results)
   unfolding rest startOf eventsIn eventsFrom
-  start-rest zero h = rw (good-events file h, length-events file (tableEnd (countOf file)) (countOf file), state-back start)
+  start-rest zero h = rw (good-events file h, length-events file (tableEnd (countIn file)) (countIn file), state-back start)
   start-rest (suc n) h = rw (bad-code file (λ z. no n (sym h ∙ z)), state-back start)
     where
       no : (m : ℕ) → suc m ≡ 0 → ⊥

@@ -10,7 +10,7 @@ use borrow.Author.Tests.{eq-eqb, ne-eqb}
 use Rattle.model.specs.Events.{Event}
 use Rattle.runfile.specs.Table.{headBytes, entryBytes, Entry, entryAt, entriesFrom, tableOf, tableEnd, chains}
 use Rattle.runfile.specs.Body.{bodyCode}
-use Rattle.runfile.specs.File.{File, bad, good, before, eventsOf, bodiesOf, codeOf}
+use Rattle.runfile.specs.File.{File, bad, good, before, eventsOf, bodiesOf, badCode}
 
 -- ---- the entries that are left of n when k are passed
 
@@ -49,8 +49,8 @@ first-twice : (a b c : ℕ) → firstOf a (firstOf b c) ≡ firstOf (firstOf a b
 first-twice zero b c = refl
 first-twice (suc a) b c = refl
 
-first-before : (code : ℕ) (e : Event) (rest : File) → codeOf (before code e rest) ≡ firstOf code (codeOf rest)
-unfolding codeOf
+first-before : (code : ℕ) (e : Event) (rest : File) → badCode (before code e rest) ≡ firstOf code (badCode rest)
+unfolding badCode
 first-before zero e (bad code) = refl
 first-before zero e (good es) = refl
 first-before (suc code) e rest = refl
@@ -58,13 +58,13 @@ first-before (suc code) e rest = refl
 -- ---- the code of a file whose next body is due at a position, with the code of those before it
 
 unfoldable pub codeFrom : List ℕ → ℕ → ℕ → List Entry → ℕ
-codeFrom file code at es = cond (chains at es (length file)) (firstOf code (codeOf (eventsOf file es))) 202
+codeFrom file code at es = cond (chains at es (length file)) (firstOf code (badCode (eventsOf file es))) 202
 
-pub code-whole : (file : List ℕ) (n : ℕ) → codeOf (bodiesOf file n) ≡ codeFrom file 0 (tableEnd n) (tableFrom file n 0)
-unfolding codeFrom codeOf
+pub code-whole : (file : List ℕ) (n : ℕ) → badCode (bodiesOf file n) ≡ codeFrom file 0 (tableEnd n) (tableFrom file n 0)
+unfolding codeFrom badCode
 code-whole file n = by (chains (tableEnd n) (tableOf file n) (length file)) ∙ ap (λ es. codeFrom file 0 (tableEnd n) es) (table-whole file n)
   where
-    by : (b : Bool) → codeOf (cond b (eventsOf file (tableOf file n)) (bad 202)) ≡ cond b (codeOf (eventsOf file (tableOf file n))) 202
+    by : (b : Bool) → badCode (cond b (eventsOf file (tableOf file n)) (bad 202)) ≡ cond b (badCode (eventsOf file (tableOf file n))) 202
     by true = refl
     by false = refl
 
@@ -83,5 +83,5 @@ module _ (file : List ℕ) (n k code at : ℕ) (h : k < n) where
 
 -- all are passed
 pub code-end : (file : List ℕ) (n code at : ℕ) → codeFrom file code at (tableFrom file n n) ≡ cond (eqb at (length file)) code 202
-unfolding codeFrom chains eventsOf codeOf
+unfolding codeFrom chains eventsOf badCode
 code-end file n code at = rw (table-end file n, first-last code)

@@ -9,9 +9,9 @@ use lib.Dec.{eqb}
 use lib.ListN.{length}
 use borrow.Author.Tests.{ltb-false, eqb-true}
 use Rattle.model.specs.Events.{Event}
-use Rattle.runfile.specs.Table.{fileMax, headBytes, entryBytes, countOf, Entry, entryAt, entriesFrom, tableOf, tableEnd, chains}
+use Rattle.runfile.specs.Table.{fileMax, headBytes, entryBytes, countIn, Entry, entryAt, entriesFrom, tableOf, tableEnd, chains}
 use Rattle.runfile.specs.Body.{sizeAt, eventAt, bodyCode, nextAt, eventsFrom}
-use Rattle.runfile.specs.File.{File, bad, good, before, eventsOf, fileOf, codeOf, codeOfFile}
+use Rattle.runfile.specs.File.{File, bad, good, before, eventsOf, fileOf, badCode, codeOfFile}
 
 -- so many bodies from a position on, the last of which ends the file
 pub data Bodies (file : List ℕ) : ℕ → ℕ → Type 0 where
@@ -32,12 +32,12 @@ record Passed (long head table chain : Bool) (rest : File) : Type 0 where
   head-no : head ≡ false
   table-no : table ≡ false
   chain-yes : chain ≡ true
-  bodies : codeOf rest ≡ 0
+  bodies : badCode rest ≡ 0
 
 passed : (long head table chain : Bool) (rest : File)
-    → codeOf (cond long (bad 201) (cond head (bad 201) (cond table (bad 201) (cond chain rest (bad 202))))) ≡ 0
+    → badCode (cond long (bad 201) (cond head (bad 201) (cond table (bad 201) (cond chain rest (bad 202))))) ≡ 0
     → Passed long head table chain rest
-unfolding codeOf
+unfolding badCode
 passed true head table chain rest h = no-code 200 h
 passed false true table chain rest h = no-code 200 h
 passed false false true chain rest h = no-code 200 h
@@ -49,15 +49,15 @@ passed false false false true rest h =
 pub record Good (file : List ℕ) : Type 0 where
   pub short : length file ≤ fileMax
   pub head : headBytes ≤ length file
-  pub table : tableEnd (countOf file) ≤ length file
-  pub chain : chains (tableEnd (countOf file)) (tableOf file (countOf file)) (length file) ≡ true
-  pub bodies : codeOf (eventsOf file (tableOf file (countOf file))) ≡ 0
-  pub is : fileOf file ≡ eventsOf file (tableOf file (countOf file))
+  pub table : tableEnd (countIn file) ≤ length file
+  pub chain : chains (tableEnd (countIn file)) (tableOf file (countIn file)) (length file) ≡ true
+  pub bodies : badCode (eventsOf file (tableOf file (countIn file))) ≡ 0
+  pub is : fileOf file ≡ eventsOf file (tableOf file (countIn file))
 
 pub is-good : (file : List ℕ) → codeOfFile file ≡ 0 → Good file
 unfolding fileOf
 is-good file h =
-    let p = passed _ _ _ _ (eventsOf file (tableOf file (countOf file))) h in
+    let p = passed _ _ _ _ (eventsOf file (tableOf file (countIn file))) h in
     record {
       short = ltb-false _ _ (p .long-no);
       head = ltb-false _ _ (p .head-no);
@@ -87,8 +87,8 @@ body-fine : (file : List ℕ) (at size : ℕ) → bodyCode file at size ≡ 0 �
 unfolding bodyCode
 body-fine file at size h = eqb-true size _ (fine (eqb size 0) (eqb (sizeAt file at) 0) (eqb size (sizeAt file at)) h)
 
-first-fine : (code : ℕ) (e : Event) (rest : File) → codeOf (before code e rest) ≡ 0 → (code ≡ 0) × (codeOf rest ≡ 0)
-unfolding codeOf
+first-fine : (code : ℕ) (e : Event) (rest : File) → badCode (before code e rest) ≡ 0 → (code ≡ 0) × (badCode rest ≡ 0)
+unfolding badCode
 first-fine zero e (good es) h = (refl, h)
 first-fine zero e (bad code) h = (refl, h)
 first-fine (suc code) e rest h = no-code code h
@@ -102,7 +102,7 @@ record Walked (file : List ℕ) (es : List Entry) (at n : ℕ) : Type 0 where
   bodies : Bodies file at n
 
 walked : (file : List ℕ) (n from at : ℕ) → chains at (entriesFrom file from n) (length file) ≡ true
-    → codeOf (eventsOf file (entriesFrom file from n)) ≡ 0 → Walked file (entriesFrom file from n) at n
+    → badCode (eventsOf file (entriesFrom file from n)) ≡ 0 → Walked file (entriesFrom file from n) at n
 unfolding entriesFrom chains eventsOf eventsFrom
 walked file zero from at h k = record { events = refl; bodies = end (eqb-true _ _ h) }
 walked file (suc n) from at h k =
@@ -120,22 +120,22 @@ walked file (suc n) from at h k =
 -- ---- a good file
 
 module _ (file : List ℕ) (h : codeOfFile file ≡ 0) where
-  walk : Walked file (tableOf file (countOf file)) (tableEnd (countOf file)) (countOf file)
-  walk = walked file (countOf file) headBytes (tableEnd (countOf file)) (is-good file h .chain) (is-good file h .bodies)
+  walk : Walked file (tableOf file (countIn file)) (tableEnd (countIn file)) (countIn file)
+  walk = walked file (countIn file) headBytes (tableEnd (countIn file)) (is-good file h .chain) (is-good file h .bodies)
 
   -- its events are those decoded from the end of the table on
-  pub good-events : fileOf file ≡ good (eventsFrom file (tableEnd (countOf file)) (countOf file))
+  pub good-events : fileOf file ≡ good (eventsFrom file (tableEnd (countIn file)) (countIn file))
   good-events = is-good file h .is ∙ walk .events
 
-  pub good-bodies : Bodies file (tableEnd (countOf file)) (countOf file)
+  pub good-bodies : Bodies file (tableEnd (countIn file)) (countIn file)
   good-bodies = walk .bodies
 
 -- any other code refuses the file
 pub bad-code : (file : List ℕ) → (codeOfFile file ≡ 0 → ⊥) → fileOf file ≡ bad (codeOfFile file)
-unfolding codeOf
+unfolding badCode
 bad-code file h = by (fileOf file) h
   where
-    by : (f : File) → (codeOf f ≡ 0 → ⊥) → f ≡ bad (codeOf f)
+    by : (f : File) → (badCode f ≡ 0 → ⊥) → f ≡ bad (badCode f)
     by (bad code) h = refl
     by (good es) h = absurd (h refl)
 

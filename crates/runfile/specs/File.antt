@@ -5,7 +5,7 @@ use mathlib.Core.List.{List, [], _∷_}
 use lib.Dec.{ltb}
 use lib.ListN.{length}
 use Rattle.model.specs.Events.{Event}
-use Rattle.runfile.specs.Table.{fileMax, headBytes, countOf, Entry, tableOf, tableEnd, chains}
+use Rattle.runfile.specs.Table.{fileMax, headBytes, countIn, Entry, tableOf, tableEnd, chains}
 use Rattle.runfile.specs.Body.{bodyCode, eventAt}
 
 pub data File : Type 0 where
@@ -32,13 +32,13 @@ unfoldable pub fileOf : List ℕ → File
 fileOf file =
     cond (ltb fileMax (length file)) (bad 201)
     (cond (ltb (length file) headBytes) (bad 201)
-    (cond (ltb (length file) (tableEnd (countOf file))) (bad 201)
-    (bodiesOf file (countOf file))))
+    (cond (ltb (length file) (tableEnd (countIn file))) (bad 201)
+    (bodiesOf file (countIn file))))
 
 -- the code of a file, 0 if it is good
-unfoldable pub codeOf : File → ℕ
-codeOf (bad code) = code
-codeOf (good es) = 0
+unfoldable pub badCode : File → ℕ
+badCode (bad code) = code
+badCode (good es) = 0
 
 abbrev pub codeOfFile : List ℕ → ℕ
-codeOfFile file = codeOf (fileOf file)
+codeOfFile file = badCode (fileOf file)

@@ -14,8 +14,8 @@ fileMax = 65535
 abbrev pub headBytes : ℕ
 headBytes = 2
 
-unfoldable pub countOf : List ℕ → ℕ
-countOf file = cond (ltb (length file) headBytes) 0 (halfAt file 0)
+unfoldable pub countIn : List ℕ → ℕ
+countIn file = cond (ltb (length file) headBytes) 0 (halfAt file 0)
 
 -- "For each, four bytes: offset from the file's start, length."
 abbrev pub entryBytes : ℕ

@@ -2,8 +2,8 @@
 ghost use mathlib.Core.Path.{_≡_};
 ghost use Prim.Native.Nat.{_≤_};
 ghost use lib.ListN.{length};
-ghost use Rattle.runfile.specs.Table.{countOf, tableEnd};
-ghost use Rattle.runfile.specs.File.{bodiesOf, codeOf, codeOfFile};
+ghost use Rattle.runfile.specs.Table.{countIn, tableEnd};
+ghost use Rattle.runfile.specs.File.{bodiesOf, badCode, codeOfFile};
 use crate::bodies::body_code;
 use crate::fields::half_at;
 use crate::fields::half_in;
@@ -17,7 +17,7 @@ pub const ENTRY_BYTES: usize = 4;
 
 // The number of events, as the head has it.
 pub fn count(file: &[u8]) -> usize
-    ensures { λ r. ⌜ r ≡ countOf (now (file .entry)) ⌝ }
+    ensures { λ r. ⌜ r ≡ countIn (now (file .entry)) ⌝ }
 {
     if file.len() < HEAD_BYTES {
         0
@@ -30,7 +30,7 @@ pub fn count(file: &[u8]) -> usize
 // first bad one, 0 if there is none.
 fn bodies_code(file: &[u8], n: usize) -> u16
     requires { ⌜ tableEnd n ≤ length (now file) ⌝ }
-    ensures { λ r. ⌜ r ≡ codeOf (bodiesOf (now (file .entry)) n) ⌝ }
+    ensures { λ r. ⌜ r ≡ badCode (bodiesOf (now (file .entry)) n) ⌝ }
 {
     let mut at = HEAD_BYTES + ENTRY_BYTES * n;
     let mut code = 0;

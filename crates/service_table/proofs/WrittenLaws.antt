@@ -20,7 +20,7 @@ use Rattle.host.proofs.PartLaws.{by-parts, length-part}
 use Rattle.host.proofs.RowLaws.{sets-paste}
 use Rattle.host.proofs.SleeperLaws.{undo-at}
 use Rattle.service_table.specs.Numbered.{IsSlot, IsProcess, Numbered}
-use Rattle.service_table.specs.Written.{tabled, written}
+use Rattle.service_table.specs.Written.{tabled, withCopies}
 use Rattle.service_table.proofs.LastLaws.{length-masked, masked-lasts}
 
 abbrev pub hostAs : Row → List ℤ → Host
@@ -52,11 +52,11 @@ sized-good x g = record { values = g .values; lasts = g .lasts; adjustments = g 
 
 module _ (x : Host) (z : Sized x) where
   -- what `apply` writes is what the model says
-  pub written-applied : (s : Sleeper) → IsSlot (s .slot) → IsProcess (s .process) → Numbered (s .array) → (copies : Copies) → length (copies .values) ≡ semaphores
+  pub copies-applied : (s : Sleeper) → IsSlot (s .slot) → IsProcess (s .process) → Numbered (s .array) → (copies : Copies) → length (copies .values) ≡ semaphores
       → length (copies .adjustments) ≡ semaphores → (mask : ℕ) → mask ≡ alteredBy 0 (operationsOf (s .array))
-      → written x (s .process) (s .slot) mask copies ≡ tabled x (applied (tableIn x) s copies)
+      → withCopies x (s .process) (s .slot) mask copies ≡ tabled x (applied (tableIn x) s copies)
   unfolding applied
-  written-applied s slot process numbers copies lv lu mask e =
+  copies-applied s slot process numbers copies lv lu mask e =
       let hs : s .slot < slots = slot in
       let hp : s .process ≤ processes = process .most in
       let hq : 1 ≤ s .process = process .least in
@@ -65,8 +65,8 @@ module _ (x : Host) (z : Sized x) where
       rw (e, undo-at (s .process) (s .slot) hq hp hs, v, u, masked-lasts (x .row lasts) (s .slot) (s .process) (operationsOf (s .array)) numbers)
       (ap (λ (r : Row). hostAs r (applied (tableIn x) s copies .adjustments)) (by-parts _ _ refl))
 
-  pub sized-written : (p slot mask : ℕ) (copies : Copies) → Sized (written x p slot mask copies)
-  sized-written p slot mask copies =
+  pub sized-copies : (p slot mask : ℕ) (copies : Copies) → Sized (withCopies x p slot mask copies)
+  sized-copies p slot mask copies =
       record {
         values = length-sets (x .row values) (row slot) (copies .values) ∙ z .values;
         lasts = length-masked 0 mask p semaphores (row slot) (x .row lasts) ∙ z .lasts;

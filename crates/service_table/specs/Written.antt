@@ -20,8 +20,8 @@ abbrev pub tabled : Host → Table → Host
 tabled x t = record { row = withTable (x .row) t; adjustments = t .adjustments }
 
 -- .. with the copies of a judged array in a slot, and the process as the last of the semaphores in the mask
-abbrev pub written : Host → ℕ → ℕ → ℕ → Copies → Host
-written x process slot mask copies =
+abbrev pub withCopies : Host → ℕ → ℕ → ℕ → Copies → Host
+withCopies x process slot mask copies =
     record {
       row = with (with (x .row) values (sets (x .row values) (row slot) (copies .values))) lasts (masked mask process semaphores (row slot) (x .row lasts));
       adjustments = sets (x .adjustments) (undoAt process slot) (copies .adjustments);

@@ -11,7 +11,7 @@ ghost use Rattle.model.specs.Events.{clearNumber, assigned, undoAll};
 ghost use Rattle.host.specs.Parts.{values, rowIn};
 ghost use Rattle.host.specs.Holding.{hostIn, tableIn};
 ghost use Rattle.service_table.specs.Numbered.{IsSlot, IsProcess, IsNumber, AreValues};
-ghost use Rattle.service_table.specs.Written.{tabled, written, exitedAt, allZero};
+ghost use Rattle.service_table.specs.Written.{tabled, withCopies, exitedAt, allZero};
 use host::HOST_BYTES;
 use host::adjustments_of;
 use host::put_adjustment;
@@ -49,7 +49,7 @@ pub fn apply(
     values: [u16; SEMAPHORES],
     undo: [i16; SEMAPHORES],
 )
-    ensures { λ _. ⌜ hostIn (now (host .exit)) (now (adjustments .exit)) ≡ written (hostIn (now (host .entry)) (now (adjustments .entry))) process slot mask (record { values = values; adjustments = undo }) ⌝ }
+    ensures { λ _. ⌜ hostIn (now (host .exit)) (now (adjustments .exit)) ≡ withCopies (hostIn (now (host .entry)) (now (adjustments .entry))) process slot mask (record { values = values; adjustments = undo }) ⌝ }
 {
     put_values(&mut *host, slot, values);
     put_lasts(host, slot, mask, process);

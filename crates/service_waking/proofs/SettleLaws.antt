@@ -25,8 +25,8 @@ use Rattle.host.proofs.QueueRows.{order-at, slot-read, array-read-back}
 use Rattle.judging.specs.Walk.{walkFrom}
 use Rattle.judging.specs.Named.{alteredBy}
 use Rattle.service_table.specs.Numbered.{Numbered}
-use Rattle.service_table.specs.Written.{tabled, written}
-use Rattle.service_table.proofs.WrittenLaws.{sized-good, written-applied}
+use Rattle.service_table.specs.Written.{tabled, withCopies}
+use Rattle.service_table.proofs.WrittenLaws.{sized-good, copies-applied}
 use Rattle.service_waking.specs.Lent.{Lent, worldIn, lentWith, Ready, JudgedAs, Settleable}
 use Rattle.service_waking.proofs.LookLaws.{values-read, undo-read, judged-as, judged-where}
 use Rattle.service_waking.proofs.LentLaws.{queue-aside, ready-row, row-tabled, world-queue, world-table, asleep-all, the-fit, the-numbered, finish-lent}
@@ -79,15 +79,15 @@ module _ (x : Host) (at : ℕ) (k : Settleable x at) where
   -- done: the copies are written
   pub settle-done : (c : Copies) {o : Outcome} {process slot mask : ℕ} {bytes : List ℕ} {y : Host} → o ≡ Done → length (c .values) ≡ semaphores → length (c .adjustments) ≡ semaphores
       → process ≡ getD (x .row order) at 0 → slot ≡ getD (x .row sleepsAt) (entry process) 0 → bytes ≡ arrayIn (x .row) process → mask ≡ alteredBy 0 (operationsOf bytes)
-      → y ≡ written x process slot mask c → y ≡ tabled x (after (tableIn x) (getD (queueIn (x .row)) at noSleeper) o c)
+      → y ≡ withCopies x process slot mask c → y ≡ tabled x (after (tableIn x) (getD (queueIn (x .row)) at noSleeper) o c)
   unfolding after
   settle-done c {o} {process} {slot} {mask} {bytes} eo lv lu ep es eb em ey =
       let p : process ≡ sleeper .process = ep ∙ settled-process in
       let s : slot ≡ sleeper .slot = es ∙ ap (λ (n : ℕ). getD (x .row sleepsAt) (entry n) 0) ep ∙ settled-slot in
       let b : bytes ≡ sleeper .array = eb ∙ ap (arrayIn (x .row)) ep ∙ settled-array in
       let m : mask ≡ alteredBy 0 (operationsOf (sleeper .array)) = em ∙ ap (λ (l : List ℕ). alteredBy 0 (operationsOf l)) b in
-      ey ∙ ap₂ (λ (u v : ℕ). written x u v mask c) p s
-      ∙ written-applied x (sized-good x (k .good)) sleeper (k .fits .slot) (record { least = k .fits .process; most = k .fits .last }) (k .numbered) c lv lu mask m
+      ey ∙ ap₂ (λ (u v : ℕ). withCopies x u v mask c) p s
+      ∙ copies-applied x (sized-good x (k .good)) sleeper (k .fits .slot) (record { least = k .fits .process; most = k .fits .last }) (k .numbered) c lv lu mask m
       ∙ rw eo
 
 -- what is ready can be settled

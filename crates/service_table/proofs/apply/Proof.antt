@@ -10,7 +10,7 @@ use Rattle.model.specs.State.{row}
 use Rattle.host.specs.Parts.{values, lasts, Row, rowIn, with}
 use Rattle.host.specs.Rows.{masked, undoAt}
 use Rattle.host.specs.Holding.{hostIn}
-use Rattle.service_table.specs.Written.{written}
+use Rattle.service_table.specs.Written.{withCopies}
 use Rattle.service_table.proofs.WrittenLaws.{hostAs}
 use borrow.Author.Needs.{needs}
 use Rattle.service_table.proofs.apply.Statement.{statement}
@@ -26,7 +26,7 @@ put-adjustments-requires : tie.Need-put-adjustments-requires
 put-adjustments-requires c κs = search needs
 
 copied : (h : List ℕ) (a : List ℤ) (copies : Copies) (p slot mask : ℕ) (r₁ r₂ : Row) (a′ : List ℤ) → r₁ ≡ with (rowIn h) values (sets (rowIn h values) (row slot) (copies .values))
-    → r₂ ≡ with r₁ lasts (masked mask p semaphores (row slot) (r₁ lasts)) → a′ ≡ sets a (undoAt p slot) (copies .adjustments) → hostAs r₂ a′ ≡ written (hostIn h a) p slot mask copies
+    → r₂ ≡ with r₁ lasts (masked mask p semaphores (row slot) (r₁ lasts)) → a′ ≡ sets a (undoAt p slot) (copies .adjustments) → hostAs r₂ a′ ≡ withCopies (hostIn h a) p slot mask copies
 copied h a copies p slot mask r₁ r₂ a′ e f g = ap₂ hostAs (f ∙ ap (λ (y : Row). with y lasts (masked mask p semaphores (row slot) (y lasts))) e) g
 
 returns : tie.Need-returns

@@ -10,14 +10,14 @@ use lib.ListN.{length}
 use borrow.Author.Needs.{needs}
 use borrow.Author.Tests.{eq-eqb, ne-eqb}
 use Rattle.runfile.specs.Body.{bodyCode}
-use Rattle.runfile.specs.File.{bodiesOf, codeOf}
+use Rattle.runfile.specs.File.{bodiesOf, badCode}
 use Rattle.runfile.proofs.Loops.{tableFrom, firstOf, first-stays, codeFrom, code-whole, code-next, code-stop, code-end}
 use Rattle.runfile.proofs.table.bodies_code.Statement.{statement}
 use Rattle.runfile.proofs.table.bodies_code.Tie as tie
 
 abbrev Inv-loop : tie.InvT-loop
 Inv-loop file n at₀ code₀ k₀ at code k =
-    (k ≤ n) × (at ≤ length file + 131070) × (codeOf (bodiesOf file n) ≡ codeFrom file code at (tableFrom file n k))
+    (k ≤ n) × (at ≤ length file + 131070) × (badCode (bodiesOf file n) ≡ codeFrom file code at (tableFrom file n k))
 
 abbrev μ-loop : tie.MeasureT-loop
 μ-loop file n at₀ code₀ k₀ at code k = n - k
@@ -87,7 +87,7 @@ loop-again c =
 
 -- behind the last body
 ended : (c : tie.After-loop Inv-loop μ-loop)
-    → codeOf (bodiesOf (c .before .before .before .args .file .now) (c .before .before .before .args .n))
+    → badCode (bodiesOf (c .before .before .before .args .file .now) (c .before .before .before .args .n))
     ≡ cond (eqb (c .before .loop .at) (length (c .before .before .before .args .file .now))) (c .before .loop .code) 202
 ended c =
     let a = c .before .before .before .args in

@@ -2,17 +2,17 @@
 use mathlib.Core.Path.{_≡_, sym}
 use borrow.Author.Tests.{lt-ltb, le-ltb}
 use borrow.Author.Needs.{needs}
-use Rattle.runfile.specs.Table.{countOf}
-use Rattle.runfile.specs.File.{fileOf, codeOf}
+use Rattle.runfile.specs.Table.{countIn}
+use Rattle.runfile.specs.File.{fileOf, badCode}
 use Rattle.runfile.proofs.table.code.Statement.{statement}
 use Rattle.runfile.proofs.table.code.Tie as tie
 
 returns : tie.Need-returns
-unfolding fileOf codeOf
+unfolding fileOf badCode
 returns c = rw (lt-ltb _ _ (c .if1 .taken))
 
 returns-2 : tie.Need-returns-2
-unfolding fileOf codeOf
+unfolding fileOf badCode
 returns-2 c = rw (le-ltb _ _ (c .before .if1 .left), lt-ltb _ _ (c .if2 .taken))
 
 half-in-requires : tie.Need-half-in-requires
@@ -27,12 +27,12 @@ mul-if3 c = search needs
 add-if3 : tie.Need-add-if3
 add-if3 c = search needs
 
-count-is : (c : tie.After-half-in) → countOf (c .before .before .before .before .args .file .now) ≡ c .half-in .result
-unfolding countOf
+count-is : (c : tie.After-half-in) → countIn (c .before .before .before .before .args .file .now) ≡ c .half-in .result
+unfolding countIn
 count-is c = rw (le-ltb _ _ (c .before .if2 .left)) (sym (c .half-in .ensures))
 
 returns-3 : tie.Need-returns-3
-unfolding fileOf codeOf
+unfolding fileOf badCode
 returns-3 c =
     let b = c .before in
     rw (count-is b, le-ltb _ _ (b .before .before .if1 .left), le-ltb _ _ (b .before .if2 .left), lt-ltb _ _ (c .if3 .taken))

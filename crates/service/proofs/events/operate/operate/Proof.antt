@@ -14,7 +14,7 @@ use Rattle.host.specs.Holding.{Host, hostIn, stateIn, tableIn}
 use Rattle.judging.proofs.WalkLaws.{walked}
 use Rattle.service_checks.proofs.FoundSets.{slot-within}
 use Rattle.service_table.specs.Written.{tabled}
-use Rattle.service_table.proofs.WrittenLaws.{sized-good, written-applied}
+use Rattle.service_table.proofs.WrittenLaws.{sized-good, copies-applied}
 use Rattle.service_waking.specs.Lent.{JudgedAs, treated}
 use Rattle.service_waking.proofs.LookLaws.{values-in, undo-read, judged-as}
 use Rattle.service.proofs.EventLaws.{held-invariant, held-row, held-seated, refused-after, begun, begun-ready}
@@ -73,7 +73,7 @@ table c =
     let z = none (c .before .before .before .before .before .before .before .before .before .before .before .before .before .before) in
     let n = sizes (c .before .before .before .before .before .before) in
     rw (slot (c .before .before .before .before .before .before .before .before .before .before .before .before .before)) at (c .apply .ensures)
-    ∙ written-applied (x s) (sized-good (x s) (held-invariant (x s) (s .pre) .good)) (call (s .args .process) (s .args .identifier) (s .args .bytes .now)) (slot-within (s .args .identifier))
+    ∙ copies-applied (x s) (sized-good (x s) (held-invariant (x s) (s .pre) .good)) (call (s .args .process) (s .args .identifier) (s .args .bytes .now)) (slot-within (s .args .identifier))
     (call-process (x s) (s .pre) _ _ _ z) (call-numbered (x s) (s .pre) _ _ _ z) _ (n .0) (n .1) _ (c .before .before .before .altered-of .ensures)
 
 clear-requires : tie.Need-clear-requires
