@@ -63,7 +63,7 @@ fn entry_of(process: u8) -> usize
 }
 
 // The slot that a process sleeps at, as the byte that it is in the row, and as an index.
-pub fn place_at(host: &[u8; HOST_BYTES], process: u8) -> u8
+pub fn slot_byte(host: &[u8; HOST_BYTES], process: u8) -> u8
     ensures { λ r. ⌜ r ≡ getD (rowIn (now (host .entry)) sleepsAt) (entry process) 0 ⌝ }
 {
     let i = entry_of(process);
@@ -77,7 +77,7 @@ pub fn place_at(host: &[u8; HOST_BYTES], process: u8) -> u8
 pub fn slot_at(host: &[u8; HOST_BYTES], process: u8) -> usize
     ensures { λ r. ⌜ r ≡ getD (rowIn (now (host .entry)) sleepsAt) (entry process) 0 ⌝ }
 {
-    place_at(host, process) as usize
+    slot_byte(host, process) as usize
 }
 
 // The bytes of the array that a process sleeps on; 0 if it is awake.

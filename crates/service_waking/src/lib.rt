@@ -23,10 +23,10 @@ use host::adjustments_of;
 use host::array_of;
 use host::asleep_of;
 use host::names_at;
-use host::place_at;
 use host::process_at;
 use host::set_at;
 use host::slot_at;
+use host::slot_byte;
 use host::values_of;
 use judging::altered_of;
 use judging::finishes;
@@ -195,11 +195,11 @@ pub fn mark_touched(host: &[u8; HOST_BYTES], slot: usize, touched: u8, marks: u8
     requires { ⌜ QueueHeld (rowIn (now host)) ⌝ }
     ensures { λ r. ⌜ r ≡ markTouched slot touched marks (queueIn (rowIn (now (host .entry)))) ⌝ }
 {
-    let place = (slot % 256) as u8;
+    let wanted = (slot % 256) as u8;
     let mut m = marks;
     for n in 0..PROCESSES {
         let process = (n as u8) + 1;
-        let here = (place_at(host, process) == place) as u8;
+        let here = (slot_byte(host, process) == wanted) as u8;
         let named = (names_at(host, process) & touched != 0) as u8;
         m = m | ((here & named) << n);
     }

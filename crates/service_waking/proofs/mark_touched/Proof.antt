@@ -7,13 +7,13 @@ use Rattle.service_waking.proofs.mark_touched.Statement.{statement}
 use Rattle.service_waking.proofs.mark_touched.Tie as tie
 
 abbrev Inv-loop : tie.InvT-loop
-Inv-loop host slot touched marks place m₀ n₀ m n = Marking (rowIn host) slot touched marks m n
+Inv-loop host slot touched marks wanted m₀ n₀ m n = Marking (rowIn host) slot touched marks m n
 
 abbrev μ-loop : tie.MeasureT-loop
-μ-loop host slot touched marks place m₀ n₀ m n = processes - n
+μ-loop host slot touched marks wanted m₀ n₀ m n = processes - n
 
-cast-place : tie.Need-cast-place Inv-loop μ-loop
-cast-place c = search needs
+cast-wanted : tie.Need-cast-wanted Inv-loop μ-loop
+cast-wanted c = search needs
 
 loop-holds : tie.Need-loop-holds Inv-loop μ-loop
 loop-holds c = mark-none (c .pre .1)
@@ -24,8 +24,8 @@ cast-process c = search needs
 add-process : tie.Need-add-process Inv-loop μ-loop
 add-process c = search needs
 
-place-at-requires : tie.Need-place-at-requires Inv-loop μ-loop
-place-at-requires c κs = search needs
+slot-byte-requires : tie.Need-slot-byte-requires Inv-loop μ-loop
+slot-byte-requires c κs = search needs
 
 cast-here : tie.Need-cast-here Inv-loop μ-loop
 cast-here c = search needs
@@ -52,7 +52,7 @@ loop-again : tie.Need-loop-again Inv-loop μ-loop
 loop-again c =
     let s = c .before .before .before .before in
     mark-more (s .pre .1) (s .pre .0) (c .before .before .before .loop .inv) (c .before .before .loop-test .taken)
-    (c .before .place-at .ensures) (c .names-at .ensures)
+    (c .before .slot-byte .ensures) (c .names-at .ensures)
 
 returns : tie.Need-returns Inv-loop μ-loop
 returns c = mark-all (c .before .before .pre .1) (c .before .loop .inv) (c .loop-test .left)
@@ -63,11 +63,11 @@ mark-touched-spec =
     (tie.spec
     Inv-loop
     μ-loop
-    cast-place
+    cast-wanted
     loop-holds
     cast-process
     add-process
-    place-at-requires
+    slot-byte-requires
     cast-here
     names-at-requires
     cast-named

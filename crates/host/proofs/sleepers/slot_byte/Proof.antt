@@ -3,8 +3,8 @@ use Rattle.host.specs.Parts.{sleepsAt}
 use Rattle.host.proofs.PartLaws.{read-beyond}
 use Rattle.host.proofs.SleeperLaws.{byte-read}
 use borrow.Author.Needs.{needs}
-use Rattle.host.proofs.sleepers.place_at.Statement.{statement}
-use Rattle.host.proofs.sleepers.place_at.Tie as tie
+use Rattle.host.proofs.sleepers.slot_byte.Statement.{statement}
+use Rattle.host.proofs.sleepers.slot_byte.Tie as tie
 
 entry-of-requires : tie.Need-entry-of-requires
 entry-of-requires c κs = search needs
@@ -23,6 +23,6 @@ returns c =
 returns-2 : tie.Need-returns-2
 returns-2 c = let e = c .before .entry-of in rw (← e .ensures) (sym (read-beyond sleepsAt (e .result) (c .before .before .args .host .now) (c .if1 .left)))
 
-pub place-at-spec : {M : Type 1} → statement M
-place-at-spec =
+pub slot-byte-spec : {M : Type 1} → statement M
+slot-byte-spec =
     tie.close (tie.spec entry-of-requires add-result element-copy-out-result returns returns-2)
