@@ -19,6 +19,7 @@ use Rattle.model.specs.Runs.{Run, run, Reached, start, came, none, Pairw
 use Rattle.model.specs.Invariant.{Fits, Invariant, alone, countAt}
 use Rattle.model.proofs.Lists.{all-map, all-replicate}
 use Rattle.model.proofs.QueueLaws.{keep-test, notOf}
+use Rattle.model.proofs.CleanLaws.{fresh-clean}
 use Rattle.model.proofs.CheckLaws.{alive, Creatable, create-passes, remove-passes}
 use Rattle.model.proofs.Agree.{slot-other}
 use Rattle.model.proofs.EventLaws.{Agrees, quiet, checked-agrees, cleared-kept, keep-kept}
@@ -31,7 +32,7 @@ unfolding doCreate
 create-agrees s count read alter i =
     checked-agrees (checkCreate s count) s _ _ i (λ e.
     let c : Creatable s count = create-passes s count e in
-    quiet _ refl (cleared-kept s (freeSlot (s .sets)) _ i (c .slot) (c .fits) (all-map (away c) (i .fits))))
+    quiet _ refl (cleared-kept s (freeSlot (s .sets)) _ i (c .slot) (c .fits) (λ e. absurd (omega (arith, e, c .some))) (all-map (away c) (i .fits))))
   where
     away : Creatable s count → (q : Sleeper) → Fits (s .sets) q → q .slot ≢ freeSlot (s .sets)
     away c q f e = let x : 0 < countAt (s .sets) (freeSlot (s .sets)) = rw e at (alive (s .sets) q f) in omega (arith, x, c .free)
@@ -40,7 +41,7 @@ remove-agrees : (s : State) (i : ℤ) → Invariant s → Agrees (doRemove s i) 
 unfolding doRemove
 remove-agrees s j i =
     checked-agrees (checkRemove s j) s _ _ i (λ e.
-    quiet _ refl (cleared-kept (record { sets = s .sets; table = s .table; queue = keep stays (s .queue) }) (slotOf j) _ (keep-kept s stays i) (remove-passes s j e .slot) (omega arith)
+    quiet _ refl (cleared-kept (record { sets = s .sets; table = s .table; queue = keep stays (s .queue) }) (slotOf j) _ (keep-kept s stays i) (remove-passes s j e .slot) (omega arith) (λ e. refl)
     (all-map (λ c n. slot-other (slotOf j) c (not-true _ n)) (keep-test stays (s .queue)))))
   where
     stays : Sleeper → Bool
@@ -81,6 +82,7 @@ fresh-invariant =
     record {
       sets = refl;
       counts = all-replicate slots noSet (omega arith);
+      vacant = all-replicate slots noSet (λ e. refl);
       good = record {
         values = refl;
         lasts = refl;
@@ -88,6 +90,7 @@ fresh-invariant =
         small = all-replicate allSemaphores 0 (omega arith);
         ranged = all-replicate allAdjustments (pos 0) (omega arith);
       };
+      clean = fresh-clean;
       fits = none;
       distinct = alone;
       stuck = none;

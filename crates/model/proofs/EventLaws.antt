@@ -14,10 +14,11 @@ use Rattle.model.specs.State.{Sleeper, State, noSet, cleared}
 use Rattle.model.specs.Waking.{World, Ended, couldFinish}
 use Rattle.model.specs.Events.{Result, refused, checked, wokenAs, keep}
 use Rattle.model.specs.Runs.{All, Alike}
-use Rattle.model.specs.Invariant.{Fits, Invariant, Calm, countAt}
+use Rattle.model.specs.Invariant.{Vacant, Clean, Fits, Invariant, Calm, countAt}
 use Rattle.model.proofs.Lists.{all-zip, all-zip3, all-set}
 use Rattle.model.proofs.QueueLaws.{keep-all, keep-distinct}
 use Rattle.model.proofs.TableLaws.{cleared-good, cleared-stuck}
+use Rattle.model.proofs.CleanLaws.{cleared-clean}
 
 -- one event in the quick and in the plain engine: what is claimed of it, the same state, and the invariant of that state
 pub record Agrees (quick plain : Result) : Type 0 where
@@ -35,13 +36,13 @@ checked-agrees zero s x y i f = f refl
 checked-agrees (suc code) s x y i f = quiet (refused s (suc code)) refl i
 
 -- an event that ends in a waking
-pub woken-agrees : (s : State) (a b : Ended) → Invariant s → a .world ≡ b .world → a .looks ≤ b .looks → b .looks ≤ 36 → Calm (s .sets) (a .world)
+pub woken-agrees : (s : State) (a b : Ended) → Invariant s → a .world ≡ b .world → a .looks ≤ b .looks → b .looks ≤ 36 → Calm (s .sets) (a .world) → Clean (s .sets) (a .world .table)
     → All (λ (q : Sleeper). couldFinish (a .world .table) q ≡ false) (a .world .queue) → Agrees (wokenAs s a) (wokenAs s b)
-woken-agrees s a b i e le most c stuck =
+woken-agrees s a b i e le most c clean stuck =
     record {
       alike = record { answer = refl; wakings = ap (λ (w : World). w .wakings) e; fewer = le; bounded = most };
       state = ap (λ (w : World). record { sets = s .sets; table = w .table; queue = w .queue }) e;
-      kept = record { sets = i .sets; counts = i .counts; good = c .good; fits = c .fits; distinct = c .distinct; stuck = stuck };
+      kept = record { sets = i .sets; counts = i .counts; vacant = i .vacant; good = c .good; clean = clean; fits = c .fits; distinct = c .distinct; stuck = stuck };
     }
 
 -- ---- create and remove put a set into a slot
@@ -53,13 +54,15 @@ fits-set sets slot k q ne f =
     record { process = f .process; last = f .last; slot = f .slot; some = f .some; whole = f .whole; short = f .short; numbers = rw e (f .numbers) }
 
 -- a slot at which nobody sleeps is cleared and given a set
-pub cleared-kept : (s : State) (slot : ℕ) (k : Set) → Invariant s → slot < slots → k .count ≤ semaphores → All (λ (q : Sleeper). q .slot ≢ slot) (s .queue)
+pub cleared-kept : (s : State) (slot : ℕ) (k : Set) → Invariant s → slot < slots → k .count ≤ semaphores → Vacant k → All (λ (q : Sleeper). q .slot ≢ slot) (s .queue)
     → Invariant (record { sets = set (s .sets) slot k; table = cleared (s .table) slot; queue = s .queue })
-cleared-kept s slot k i hs hk ne =
+cleared-kept s slot k i hs hk hv ne =
     record {
       sets = length-set (s .sets) slot k ∙ i .sets;
       counts = all-set (s .sets) slot k (i .counts) hk;
+      vacant = all-set (s .sets) slot k (i .vacant) hv;
       good = cleared-good (s .table) slot (i .good) hs;
+      clean = cleared-clean (s .sets) (s .table) slot k (i .good) hs (i .clean);
       fits = all-zip (fits-set (s .sets) slot k) ne (i .fits);
       distinct = i .distinct;
       stuck = all-zip3 (λ q f n e. cleared-stuck (i .counts) (s .table) q (i .good) f slot hs n e) (i .fits) ne (i .stuck);
@@ -71,7 +74,9 @@ keep-kept s test i =
     record {
       sets = i .sets;
       counts = i .counts;
+      vacant = i .vacant;
       good = i .good;
+      clean = i .clean;
       fits = keep-all test (s .queue) (i .fits);
       distinct = keep-distinct test (s .queue) (i .distinct);
       stuck = keep-all test (s .queue) (i .stuck);

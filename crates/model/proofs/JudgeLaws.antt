@@ -2,11 +2,12 @@
 use Prim.Native.Nat.{ℕ, zero, suc, _+_, _-_, _≤_}
 use native.Mathlib.Omega.{arith}
 use mathlib.Core.Path.{_≡_, refl, sym, _∙_}
-use mathlib.Core.Logic.{_⊎_, inl, inr}
+use mathlib.Core.Logic.{_≢_, _⊎_, inl, inr}
 use mathlib.Core.Bool.{Bool, true, false, cond}
 use mathlib.Core.List.{List, [], _∷_}
 use lib.Dec.{ltb, eqb}
 use lib.ListN.{length, getD, length-set}
+use lib.Seq.{getD-set-other}
 use lib.IntN.{ℤ, pos, negsuc, _-ℤ_}
 use lib.Signed.{ltZ}
 use borrow.Author.Tests.{ltb-false}
@@ -21,9 +22,9 @@ use Rattle.model.specs.declared.Copies.{Copies}
 use Rattle.model.specs.declared.Judged.{Judged}
 use Rattle.model.specs.Limits.{semaphores, valueMax}
 use Rattle.model.specs.Operation.{noWait, withUndo}
-use Rattle.model.specs.Judge.{nextValue, nextAdjustment, judged, withValue, undone, valued, step, goOn, judgeFrom}
+use Rattle.model.specs.Judge.{nextValue, nextAdjustment, judged, withValue, withAdjustment, undone, valued, step, goOn, judgeFrom}
 use Rattle.model.specs.Runs.{All}
-use Rattle.model.proofs.Lists.{rest, first, all-map, all-set, all-getD, set-alike}
+use Rattle.model.proofs.Lists.{rest, first, all-of, all-map, all-set, all-getD, set-alike}
 use Rattle.model.specs.Invariant.{Ranged}
 
 -- whichever of the two a test picks
@@ -92,48 +93,76 @@ next-ranged a amount z e = go (ltZ (a -ℤ amount) (negsuc (valueMax - 1))) refl
     go false h true k f = let r : _≡_ {A = ℕ} 0 1 = cc in absurd (omega arith)
     go false h false k f = let r : a -ℤ amount ≡ z = cc in rw r at (within (a -ℤ amount) h k)
 
-pub step-fine : (c : Copies) (o : Operation) (i : ℕ) → Fine c → Fine (step c o i .copies)
+-- what an operation leaves: the copies as they were, with its value, or with its value and its adjustment
+step-leaves : (P : Copies → Type 0) (c : Copies) (o : Operation) (i : ℕ) → P c
+    → ((v : ℕ) → nextValue (getD (c .values) (o .number) 0) (o .amount) ≡ next.To v → P (withValue c (o .number) v))
+    → ((v : ℕ) (a : ℤ) → P (withValue c (o .number) v) → nextAdjustment (getD (c .adjustments) (o .number) (pos 0)) (o .amount) ≡ undo.To a
+        → P (withAdjustment (withValue c (o .number) v) (o .number) a))
+    → P (step c o i .copies)
 unfolding step
-step-fine c o i f = value (nextValue (getD (c .values) (o .number) 0) (o .amount)) refl
+step-leaves P c o i h value adjustment = go (nextValue (getD (c .values) (o .number) 0) (o .amount)) refl
   where
-    valued-fine : (v : ℕ) → v ≤ valueMax → Fine (withValue c (o .number) v)
-    valued-fine v h =
-        record {
-          values = length-set (c .values) (o .number) v ∙ f .values;
-          adjustments = f .adjustments;
-          small = all-set (c .values) (o .number) v (f .small) h;
-          ranged = f .ranged;
-        }
+    adjusted : (v : ℕ) → P (withValue c (o .number) v) → (y : Undo) → nextAdjustment (getD (c .adjustments) (o .number) (pos 0)) (o .amount) ≡ y → P (undone c o i v y .copies)
+    adjusted v k undo.Out e = h
+    adjusted v k (undo.To a) e = adjustment v a k e
 
-    adjusted : (v : ℕ) → v ≤ valueMax → (y : Undo) → nextAdjustment (getD (c .adjustments) (o .number) (pos 0)) (o .amount) ≡ y → Fine (undone c o i v y .copies)
-    adjusted v h undo.Out e = f
-    adjusted v h (undo.To a) e =
-        record {
-          values = length-set (c .values) (o .number) v ∙ f .values;
-          adjustments = length-set (c .adjustments) (o .number) a ∙ f .adjustments;
-          small = all-set (c .values) (o .number) v (f .small) h;
-          ranged = all-set (c .adjustments) (o .number) a (f .ranged) (next-ranged _ (o .amount) a e);
-        }
-
-    value : (x : Next) → nextValue (getD (c .values) (o .number) 0) (o .amount) ≡ x → Fine (valued c o i x .copies)
-    value next.Over e = f
-    value next.Stop e = either (λ (j : Judged). Fine (j .copies)) (noWait o) _ _ f f
-    value (next.To v) e =
-        let h : v ≤ valueMax = next-small (getD (c .values) (o .number) 0) (o .amount) v (all-getD (λ (v : ℕ). v ≤ valueMax) (c .values) (o .number) 0 (f .small) (omega arith)) e in
-        either (λ (j : Judged). Fine (j .copies)) (withUndo o) _ _ (adjusted v h _ refl) (valued-fine v h)
+    go : (x : Next) → nextValue (getD (c .values) (o .number) 0) (o .amount) ≡ x → P (valued c o i x .copies)
+    go next.Over e = h
+    go next.Stop e = either (λ (j : Judged). P (j .copies)) (noWait o) _ _ h h
+    go (next.To v) e = either (λ (j : Judged). P (j .copies)) (withUndo o) _ _ (adjusted v (value v e) _ refl) (value v e)
 
 -- what goes on leaves the copies of the rest, or those that the array began with
-goOn-fine : (start : Copies) (i : ℕ) (x : Outcome) (more : Judged) → Fine start → Fine (more .copies) → Fine (goOn start i x more .copies)
+goOn-leaves : (P : Copies → Type 0) (start : Copies) (i : ℕ) (x : Outcome) (more : Judged) → P start → P (more .copies) → P (goOn start i x more .copies)
 unfolding goOn
-goOn-fine start i Done more f g = g
-goOn-fine start i Sleep more f g = f
-goOn-fine start i Again more f g = f
-goOn-fine start i Range more f g = f
+goOn-leaves P start i Done more h k = k
+goOn-leaves P start i Sleep more h k = h
+goOn-leaves P start i Again more h k = h
+goOn-leaves P start i Range more h k = h
+
+-- what each operation keeps, judging keeps
+judge-leaves : (P : Copies → Type 0) (start : Copies) (os : List Operation) (c : Copies) (i : ℕ) → P start → P c
+    → All (λ (o : Operation). (c : Copies) (i : ℕ) → P c → P (step c o i .copies)) os → P (judgeFrom start os c i .copies)
+unfolding judgeFrom
+judge-leaves P start [] c i h k each = k
+judge-leaves P start (o ∷ os) c i h k each =
+    goOn-leaves P start i (step c o i .outcome) _ h (judge-leaves P start os (step c o i .copies) (i + 1) h (first each c i k) (rest each))
+
+pub step-fine : (c : Copies) (o : Operation) (i : ℕ) → Fine c → Fine (step c o i .copies)
+step-fine c o i f =
+    step-leaves Fine c o i f (λ v e. record {
+      values = length-set (c .values) (o .number) v ∙ f .values;
+      adjustments = f .adjustments;
+      small = all-set (c .values) (o .number) v (f .small) (next-small _ (o .amount) v (all-getD (λ (v : ℕ). v ≤ valueMax) (c .values) (o .number) 0 (f .small) (omega arith)) e);
+      ranged = f .ranged;
+    }) (λ v a g e. record {
+      values = g .values;
+      adjustments = length-set (c .adjustments) (o .number) a ∙ f .adjustments;
+      small = g .small;
+      ranged = all-set (c .adjustments) (o .number) a (f .ranged) (next-ranged _ (o .amount) a e);
+    })
 
 pub judge-fine : (start : Copies) (os : List Operation) (c : Copies) (i : ℕ) → Fine start → Fine c → Fine (judgeFrom start os c i .copies)
-unfolding judgeFrom
-judge-fine start [] c i f g = g
-judge-fine start (o ∷ os) c i f g = goOn-fine start i (step c o i .outcome) _ f (judge-fine start os (step c o i .copies) (i + 1) f (step-fine c o i g))
+judge-fine start os c i f g = judge-leaves Fine start os c i f g (all-of os (λ o c i k. step-fine c o i k))
+
+-- the value and the adjustment of a semaphore are 0
+pub record Idle (n : ℕ) (c : Copies) : Type 0 where
+  pub value : getD (c .values) n 0 ≡ 0
+  pub adjustment : getD (c .adjustments) n (pos 0) ≡ pos 0
+
+-- .. and stay so if the array does not name it
+pub judge-idle : (n : ℕ) (start : Copies) (os : List Operation) (c : Copies) (i : ℕ) → Idle n start → Idle n c → All (λ (o : Operation). o .number ≢ n) os
+    → Idle n (judgeFrom start os c i .copies)
+judge-idle n start os c i h k others = judge-leaves (Idle n) start os c i h k (all-map step-idle others)
+  where
+    step-idle : (o : Operation) → o .number ≢ n → (c : Copies) (i : ℕ) → Idle n c → Idle n (step c o i .copies)
+    step-idle o ne c i z =
+        step-leaves (Idle n) c o i z (λ v e. record {
+          value = getD-set-other (c .values) (o .number) n v 0 (λ x. ne (sym x)) ∙ z .value;
+          adjustment = z .adjustment;
+        }) (λ v a y e. record {
+          value = y .value;
+          adjustment = getD-set-other (c .adjustments) (o .number) n a (pos 0) (λ x. ne (sym x)) ∙ z .adjustment;
+        })
 
 -- ---- locality
 

@@ -14,7 +14,9 @@ pub mod Ones
 pub mod WakingLaws
 pub mod Rules
 pub mod Calm
--- the two engines agree, and the situations:
+pub mod CleanLaws
+-- a refused event changes nothing, the two engines agree, and the situations:
+pub mod Refusals
 pub mod Agree
 pub mod EventLaws
 pub mod WakingEvents

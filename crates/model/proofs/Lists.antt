@@ -7,7 +7,7 @@ use native.Mathlib.Decide.{decLt}
 use mathlib.Core.Path.{_≡_, refl, sym, ap, _∙_}
 use mathlib.Core.List.{List, [], _∷_, _++_}
 use lib.ListN.{length, getD, set, take, drop, replicate, length-append, List·getD-append}
-use lib.Seq.{slice, paste, drop-cons, getD-take, getD-drop, drop-paste, length-take-le}
+use lib.Seq.{slice, paste, drop-cons, getD-take, getD-drop, getD-append-add, drop-paste, length-take-le}
 use Rattle.model.specs.Waking.{without}
 use Rattle.model.specs.Runs.{All, none, also}
 
@@ -21,6 +21,10 @@ module _ {A : Type 0} where
   pub all-map : {P Q : A → Type 0} {l : List A} → ((x : A) → P x → Q x) → All P l → All Q l
   all-map f none = none
   all-map f (also {x = x} h t) = also (f x h) (all-map f t)
+
+  pub all-of : {P : A → Type 0} (l : List A) → ((x : A) → P x) → All P l
+  all-of [] f = none
+  all-of (x ∷ l) f = also (f x) (all-of l f)
 
   -- several properties at once
   pub all-zip : {P Q R : A → Type 0} {l : List A} → ((x : A) → P x → Q x → R x) → All P l → All Q l → All R l
@@ -114,6 +118,17 @@ module _ {A : Type 0} where
       ∙ ap (λ (r : List A). getD r (j - (at + n)) x) (drop-paste d at s n hd hs)
       ∙ getD-drop (at + n) d (j - (at + n)) x)
 
+  getD-paste-inside : (d : List A) (at : ℕ) (s : List A) (n : ℕ) (j : ℕ) (x : A) → at ≤ length d → n ≤ length s → at ≤ j → j < at + n
+      → getD (paste d at s n) j x ≡ getD s (j - at) x
+  getD-paste-inside d at s n j x hd hs le lt =
+      let e : length (take at d) ≡ at = length-take-le at d hd in
+      let f : length (take n s) ≡ n = length-take-le n s hs in
+      let k : j ≡ length (take at d) + (j - at) = omega arith in
+      List·getD-append (take at d ++ take n s) (drop (at + n) d) x j (omega (arith, length-append (take at d) (take n s)))
+      ∙ ap (λ (i : ℕ). getD (take at d ++ take n s) i x) k
+      ∙ getD-append-add (take at d) (take n s) (j - at) x
+      ∙ getD-take n s (j - at) x (omega arith)
+
   -- a place is beside what was pasted if it is behind it whenever it is not before it
   pub getD-paste-beside : (d : List A) (at : ℕ) (s : List A) (n : ℕ) (j : ℕ) (x : A) → at ≤ length d → n ≤ length s → (at ≤ j → at + n ≤ j)
       → getD (paste d at s n) j x ≡ getD d j x
@@ -122,6 +137,27 @@ module _ {A : Type 0} where
       go : Dec (j < at) → getD (paste d at s n) j x ≡ getD d j x
       go (yes lt) = getD-paste-below d at s n j x hd lt
       go (no ge) = getD-paste-beyond d at s n j x hd hs (h (omega arith))
+
+  -- what holds beside what was pasted, and of what was pasted, holds at any place
+  pub getD-paste : (P : A → Type 0) (d : List A) (at : ℕ) (s : List A) (n : ℕ) (j : ℕ) (x : A) → at ≤ length d → n ≤ length s
+      → ((at ≤ j → at + n ≤ j) → P (getD d j x)) → ((k : ℕ) → k < n → j ≡ at + k → P (getD s k x)) → P (getD (paste d at s n) j x)
+  getD-paste P d at s n j x hd hs beside inside = below (decLt j at) (decLt j (at + n))
+    where
+      below : Dec (j < at) → Dec (j < at + n) → P (getD (paste d at s n) j x)
+      below (yes lt) q = rw (getD-paste-beside d at s n j x hd hs (λ le. omega arith)) (beside (λ le. omega arith))
+      below (no ge) (no le) = rw (getD-paste-beside d at s n j x hd hs (λ h. omega arith)) (beside (λ h. omega arith))
+      below (no ge) (yes lt) =
+          let k : j ≡ at + (j - at) = omega arith in
+          let e : getD (paste d at s n) j x ≡ getD s (j - at) x = getD-paste-inside d at s n j x hd hs (omega arith) lt in
+          rw e (inside (j - at) (omega arith) k)
+
+  -- .. and so after a store
+  pub getD-set : (P : A → Type 0) (l : List A) (i : ℕ) (a : A) (j : ℕ) (x : A) → P (getD l j x) → (j ≡ i → P a) → P (getD (set l i a) j x)
+  getD-set P [] i a j x h k = h
+  getD-set P (y ∷ l) zero a zero x h k = k refl
+  getD-set P (y ∷ l) zero a (suc j) x h k = h
+  getD-set P (y ∷ l) (suc i) a zero x h k = h
+  getD-set P (y ∷ l) (suc i) a (suc j) x h k = getD-set P l i a j x h (λ e. k (ap suc e))
 
   pub set-alike : (d : A) (u v : List A) (n : ℕ) (x : A) (j : ℕ) → length u ≡ length v → getD u j d ≡ getD v j d → getD (set u n x) j d ≡ getD (set v n x) j d
   set-alike d [] [] n x j e h = refl

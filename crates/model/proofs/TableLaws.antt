@@ -89,7 +89,7 @@ unnamed-other q n h = all-map (λ o e z. let b : bit (2 ^ n) n ≡ 0 = rw z at e
 
 -- ---- create and remove
 
-length-clearRows : (i slot : ℕ) (l : List ℤ) → i ≤ processes → slot < slots → length l ≡ allAdjustments → length (clearRows i slot l) ≡ allAdjustments
+pub length-clearRows : (i slot : ℕ) (l : List ℤ) → i ≤ processes → slot < slots → length l ≡ allAdjustments → length (clearRows i slot l) ≡ allAdjustments
 unfolding clearRows
 length-clearRows zero slot l hi hs e = e
 length-clearRows (suc i) slot l hi hs e =
@@ -113,7 +113,7 @@ cleared-good t slot g hs =
       ranged = ranged-clearRows processes slot (t .adjustments) (g .ranged);
     }
 
-clearRows-other : (i slot a b c : ℕ) (l : List ℤ) → i ≤ processes → slot < slots → b < slots → c < semaphores → b ≢ slot → length l ≡ allAdjustments
+pub clearRows-other : (i slot a b c : ℕ) (l : List ℤ) → i ≤ processes → slot < slots → b < slots → c < semaphores → b ≢ slot → length l ≡ allAdjustments
     → getD (clearRows i slot l) (undoRow a b + c) (pos 0) ≡ getD l (undoRow a b + c) (pos 0)
 unfolding clearRows
 clearRows-other zero slot a b c l hi hs hb hc ne e = refl

@@ -15,7 +15,7 @@ use Rattle.model.specs.declared.Outcome.the-variants.{Done, Sleep, Again
 use Rattle.model.specs.declared.Copies.{Copies}
 use Rattle.model.specs.declared.Judged.{Judged}
 use Rattle.model.specs.declared.Engine.the-variants.{Plain, Quick}
-use Rattle.model.specs.Limits.{slots, processes}
+use Rattle.model.specs.Limits.{slots, semaphores, processes}
 use Rattle.model.specs.State.{Table, Sleeper, State}
 use Rattle.model.specs.Operation.{operationsOf, hasBit}
 use Rattle.model.specs.Judge.{finishes}
@@ -26,11 +26,12 @@ use Rattle.model.specs.Checks.{live, slotOf, checkOperate, checkSetValue
 use Rattle.model.specs.Events.{wokenAs, world, operated, call, doOperate, assigned, doSetValue, exited, keep, treat, treatFrom, touchedFrom, doExit}
 use Rattle.model.specs.Runs.{All, none, also}
 use Rattle.model.proofs.Lists.{all-map, all-zip, all-zip3, all-append}
-use Rattle.model.specs.Invariant.{Good, Fits, Other, Invariant, countAt}
+use Rattle.model.specs.Invariant.{Good, Clean, Fits, Other, Invariant, countAt}
 use Rattle.model.proofs.JudgeLaws.{Fine}
 use Rattle.model.proofs.LookLaws.{count-fits, numbers-fit, look-fine, applied-good, applied-undo, applied-value, still-stuck, unconcerned-stuck}
 use Rattle.model.proofs.QueueLaws.{few, distinct-snoc, keep-test, notOf}
 use Rattle.model.proofs.TableLaws.{assigned-good, assigned-stuck, unnamed-other, exited-good, exited-stuck}
+use Rattle.model.proofs.CleanLaws.{looked-clean, assigned-clean, exited-clean, wake-clean}
 use Rattle.model.proofs.CheckLaws.{alive, Operable, operate-passes, Assignable, setValue-passes, process-passes}
 use Rattle.model.proofs.Rules.{tame}
 use Rattle.model.specs.Invariant.{Calm}
@@ -53,12 +54,12 @@ together slot Meant t q r a m = go (mine slot q) refl
     go false e = a e (m (slot-other slot q e))
 
 -- the table has become t: the sleepers of other sets are still stuck, and so are those of the set who name no touched semaphore
-treated : (s : State) (slot touched : ℕ) (t : Table) (i : Invariant s) → Good t → All (Aside slot Anyone t) (s .queue) → Ready (i .counts) slot touched (world t (s .queue))
+treated : (s : State) (slot touched : ℕ) (t : Table) (i : Invariant s) → Good t → Clean (s .sets) t → All (Aside slot Anyone t) (s .queue) → Ready (i .counts) slot touched (world t (s .queue))
     → Agrees (wokenAs s (waker Quick slot touched (world t (s .queue)) 0)) (wokenAs s (waker Plain slot touched (world t (s .queue)) 0))
-treated s slot touched t i g aside ready =
+treated s slot touched t i g clean aside ready =
     woken-agrees s (waker Quick slot touched w 0) (waker Plain slot touched w 0) i (ag .world) (ag .looks)
     (omega (arith, tame Plain .looked slot touched w 0 .most, looks-36 (mine slot) (s .queue) (few s i)))
-    (wake-calm Quick slot touched w 0 calm)
+    (wake-calm Quick slot touched w 0 calm) (wake-clean (i .counts) Quick slot touched w 0 calm clean)
     (all-zip (λ q r a. together slot Anyone _ q r a (λ e. tt)) (ag .rests) (wake-aside (i .counts) slot Quick Anyone touched w 0 calm aside))
   where
     w : World
@@ -73,10 +74,10 @@ treated s slot touched t i g aside ready =
 -- ---- operate
 
 operated-agrees : (s : State) (c : Sleeper) (x : Outcome) (copies : Copies) → Invariant s → Fits (s .sets) c → All (Other c) (s .queue) → Fine copies
-    → look (s .table) c .outcome ≡ x → Agrees (operated (waker Quick) s c x copies) (operated (waker Plain) s c x copies)
+    → Clean (s .sets) (applied (s .table) c copies) → look (s .table) c .outcome ≡ x → Agrees (operated (waker Quick) s c x copies) (operated (waker Plain) s c x copies)
 unfolding operated finishes
-operated-agrees s c Done copies i f others k e =
-    treated s (c .slot) (differing 0 0 (valuesOf (s .table) (c .slot)) (valuesOf (applied (s .table) c copies) (c .slot))) t i g
+operated-agrees s c Done copies i f others k clean e =
+    treated s (c .slot) (differing 0 0 (valuesOf (s .table) (c .slot)) (valuesOf (applied (s .table) c copies) (c .slot))) t i g clean
     (all-zip3 aside (i .fits) others (i .stuck)) (all-zip3 ready (i .fits) others (i .stuck))
   where
     t : Table
@@ -95,18 +96,20 @@ operated-agrees s c Done copies i f others k e =
         → hasBit (named q) (differing 0 0 (valuesOf (s .table) (c .slot)) (valuesOf t (c .slot))) ≡ false → couldFinish t q ≡ false
     ready q fq o st e un =
         unconcerned-stuck (i .counts) (s .table) t q (i .good) g fq (rw (slot-mine (c .slot) q e) un) (applied-undo (s .table) c q (i .good) f fq copies k o) st
-operated-agrees s c Sleep copies i f others k e =
+operated-agrees s c Sleep copies i f others k clean e =
     quiet _ refl
     (record {
       sets = i .sets;
       counts = i .counts;
+      vacant = i .vacant;
       good = i .good;
+      clean = i .clean;
       fits = all-append (s .queue) (c ∷ []) (i .fits) (also f none);
       distinct = distinct-snoc (s .queue) c (i .distinct) others;
       stuck = all-append (s .queue) (c ∷ []) (i .stuck) (also (ap finishes e) none);
     })
-operated-agrees s c Again copies i f others k e = quiet _ refl i
-operated-agrees s c Range copies i f others k e = quiet _ refl i
+operated-agrees s c Again copies i f others k clean e = quiet _ refl i
+operated-agrees s c Range copies i f others k clean e = quiet _ refl i
 
 pub operate-agrees : (s : State) (p : ℕ) (i : ℤ) (bytes : List ℕ) → Invariant s → Agrees (doOperate (waker Quick) s p i bytes) (doOperate (waker Plain) s p i bytes)
 unfolding doOperate
@@ -119,7 +122,9 @@ operate-agrees s p j bytes i = checked-agrees (checkOperate s p j bytes) s _ _ i
     judged = look (s .table) c
 
     does : Operable s p j bytes → Agrees (operated (waker Quick) s c (judged .outcome) (judged .copies)) (operated (waker Plain) s c (judged .outcome) (judged .copies))
-    does o = operated-agrees s c (judged .outcome) (judged .copies) i (o .fits) (o .others) (look-fine (s .table) c (i .good) (o .fits)) refl
+    does o =
+        operated-agrees s c (judged .outcome) (judged .copies) i (o .fits) (o .others) (look-fine (s .table) c (i .good) (o .fits))
+        (looked-clean (i .counts) (s .table) c (i .good) (o .fits) (i .clean)) refl
 
 -- ---- set value
 
@@ -130,14 +135,17 @@ setValue-agrees s j n v i = checked-agrees (checkSetValue s j n v) s _ _ i (λ e
     t : Table
     t = assigned (s .table) (slotOf j) n (natAbs v)
 
+    fits : Assignable s j n v → n < semaphores
+    fits a = omega (arith, a .numbered .number, count-fits (i .counts) (slotOf j))
+
     stuck : Assignable s j n v → (q : Sleeper) → Fits (s .sets) q → All (λ (o : Operation). q .slot ≡ slotOf j → o .number ≢ n) (operationsOf (q .array))
         → couldFinish (s .table) q ≡ false → couldFinish (assigned (s .table) (slotOf j) n (natAbs v)) q ≡ false
-    stuck a q f =
-        assigned-stuck (i .counts) (s .table) q (i .good) f (slotOf j) n (natAbs v) (a .numbered .slot) (omega (arith, a .numbered .number, count-fits (i .counts) (slotOf j))) (a .value)
+    stuck a q f = assigned-stuck (i .counts) (s .table) q (i .good) f (slotOf j) n (natAbs v) (a .numbered .slot) (fits a) (a .value)
 
     does : Assignable s j n v → Agrees (wokenAs s (waker Quick (slotOf j) (2 ^ n) (world t (s .queue)) 0)) (wokenAs s (waker Plain (slotOf j) (2 ^ n) (world t (s .queue)) 0))
     does a =
         treated s (slotOf j) (2 ^ n) t i (assigned-good (s .table) (slotOf j) n (natAbs v) (i .good) (a .value))
+        (assigned-clean (s .sets) (s .table) (slotOf j) n (natAbs v) (a .numbered .slot) (a .numbered .number) (fits a) (i .clean))
         (all-zip (λ q f st e m. stuck a q f (all-map (λ o h z. absurd (slot-other (slotOf j) q e z)) (numbers-fit (i .counts) q f)) st) (i .fits) (i .stuck))
         (all-zip (λ q f st e un. stuck a q f (all-map (λ o h z. h) (unnamed-other q n un)) st) (i .fits) (i .stuck))
 
@@ -153,6 +161,7 @@ module _ (s : State) (i : Invariant s) where
     world : a .world ≡ b .world
     looks : a .looks ≤ b .looks
     calm : Calm (s .sets) (a .world)
+    clean : Clean (s .sets) (a .world .table)
     done : All (λ (q : Sleeper). Meant slot touches q → couldFinish (a .world .table) q ≡ false) (a .world .queue)
 
   -- one slot more, for a sleeper of another
@@ -193,6 +202,7 @@ module _ (s : State) (i : Invariant s) where
             world = moved .world;
             looks = moved .looks;
             calm = wake-calm Quick slot touched (a .world) (a .looks) (u .calm);
+            clean = wake-clean (i .counts) Quick slot touched (a .world) (a .looks) (u .calm) (u .clean);
             done = all-zip (λ q r x m. together slot (Meant slot (touched ∷ touches)) _ q r x (λ ne. back slot touched touches q ne m)) (ag .rests) aside;
           }
       go false e =
@@ -200,6 +210,7 @@ module _ (s : State) (i : Invariant s) where
             world = u .world;
             looks = u .looks;
             calm = u .calm;
+            clean = u .clean;
             done = all-zip (λ q f d m. d (back slot touched touches q (dead e q f) m)) (u .calm .fits) (u .done);
           }
 
@@ -255,6 +266,7 @@ exit-agrees s p i = checked-agrees (checkProcess p) s _ _ i (λ e. does (process
           world = refl;
           looks = omega arith;
           calm = record { good = exited-good (s .table) p (i .good) (r .0) (r .1); fits = k .fits; distinct = k .distinct; room = omega (arith, few left k) };
+          clean = exited-clean (s .sets) (s .table) p (i .good) (r .0) (r .1) (i .clean);
           done = all-zip3 (first-done r) (k .fits) (k .stuck) (keep-test (notOf p) (s .queue));
         }
 
@@ -264,4 +276,4 @@ exit-agrees s p i = checked-agrees (checkProcess p) s _ _ i (λ e. does (process
         treatFrom-upto s i 0 touches start start (upto r) in
         woken-agrees s _ _ i (u .world) (u .looks)
         (omega (arith, treatFrom-looked (waker Plain) (tame Plain) (s .sets) 0 touches start .most, looks-36 (from 0) (left .queue) (few left k)))
-        (u .calm) (all-zip (λ q f d. d (inl (omega (arith, f .slot, length-touched slots 0 (s .table) t)))) (u .calm .fits) (u .done))
+        (u .calm) (u .clean) (all-zip (λ q f d. d (inl (omega (arith, f .slot, length-touched slots 0 (s .table) t)))) (u .calm .fits) (u .done))

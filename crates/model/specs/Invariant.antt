@@ -4,11 +4,11 @@ use mathlib.Core.Path.{_≡_}
 use mathlib.Core.Logic.{_≢_}
 use mathlib.Core.List.{List, [], _∷_}
 use lib.ListN.{length, getD}
-use lib.IntN.{ℤ, natAbs}
+use lib.IntN.{ℤ, pos, natAbs}
 use Rattle.model.specs.declared.Set.{Set}
 use Rattle.model.specs.declared.Operation.{Operation}
 use Rattle.model.specs.Limits.{slots, semaphores, processes, valueMax, operationBytes, arrayBytes, allSemaphores, allAdjustments}
-use Rattle.model.specs.State.{Table, Sleeper, State, noSet}
+use Rattle.model.specs.State.{Table, Sleeper, State, row, undoRow, freeSet, noSet}
 use Rattle.model.specs.Operation.{operationsOf}
 use Rattle.model.specs.Runs.{All, Stuck}
 use Rattle.model.specs.Waking.{World}
@@ -28,6 +28,20 @@ pub record Good (t : Table) : Type 0 where
 -- the number of semaphores in a slot
 abbrev pub countAt : List Set → ℕ → ℕ
 countAt sets slot = getD sets slot noSet .count
+
+-- "four free slots with every number 0", and a removed one "to 0 but its generation"
+abbrev pub Vacant : Set → Type 0
+Vacant k = k .count ≡ 0 → k ≡ freeSet (k .generation)
+
+-- a semaphore that no set has: its value, its last process and every process's adjustment for it are 0
+pub record Unused (t : Table) (slot number : ℕ) : Type 0 where
+  pub value : getD (t .values) (row slot + number) 0 ≡ 0
+  pub last : getD (t .lasts) (row slot + number) 0 ≡ 0
+  pub adjustment : (p : ℕ) → 1 ≤ p → p ≤ processes → getD (t .adjustments) (undoRow p slot + number) (pos 0) ≡ pos 0
+
+-- every number at or above a set's count is 0; a free slot's count is 0
+abbrev pub Clean : List Set → Table → Type 0
+Clean sets t = (slot number : ℕ) → slot < slots → countAt sets slot ≤ number → number < semaphores → Unused t slot number
 
 -- a sleeper's process, slot and array are as the checks of operate left them
 pub record Fits (sets : List Set) (s : Sleeper) : Type 0 where
@@ -51,7 +65,9 @@ pub data Distinct : List Sleeper → Type 0 where
 pub record Invariant (s : State) : Type 0 where
   pub sets : length (s .sets) ≡ slots
   pub counts : All (λ (k : Set). k .count ≤ semaphores) (s .sets)
+  pub vacant : All Vacant (s .sets)
   pub good : Good (s .table)
+  pub clean : Clean (s .sets) (s .table)
   pub fits : All (Fits (s .sets)) (s .queue)
   pub distinct : Distinct (s .queue)
   pub stuck : All (Stuck s) (s .queue)

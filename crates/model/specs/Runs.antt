@@ -1,13 +1,14 @@
 -- Lists of events, and what is claimed of the two engines ("What each promise says").
-use Prim.Native.Nat.{_≤_}
+use Prim.Native.Nat.{ℕ, suc, _≤_}
 use mathlib.Core.Path.{_≡_}
 use mathlib.Core.Bool.{false}
 use mathlib.Core.List.{List, [], _∷_}
+use lib.IntN.{pos}
 use Rattle.model.specs.declared.Engine.{Engine}
 use Rattle.model.specs.declared.Engine.the-variants.{Plain, Quick}
 use Rattle.model.specs.State.{State, Sleeper, freshState}
 use Rattle.model.specs.Waking.{waker, couldFinish}
-use Rattle.model.specs.Events.{Event, Result, event}
+use Rattle.model.specs.Events.{Event, Result, refused, event}
 
 -- the results of a list of events, in order, and the state after it
 pub record Run : Type 0 where
@@ -48,6 +49,15 @@ pub record Alike (quick plain : Result) : Type 0 where
 -- "A sleeper could finish if its array, judged on the state as it stands, gives anything but sleep."
 abbrev pub Stuck : State → Sleeper → Type 0
 Stuck s q = couldFinish (s .table) q ≡ false
+
+-- "A refused event (one that is 11 or 34 by judging too) returns its code, value 0 (in a query every other number 0 too), no
+-- looks and no wakings; the state is unchanged": a result whose code is above 0 is that refusal
+abbrev pub Refuses : State → Result → Type 0
+Refuses s r = (code : ℕ) → r .answer .code ≡ pos (suc code) → r ≡ refused s (suc code)
+
+-- Demand 1, for one event of an engine in any state.
+abbrev pub RefusedWhole : Engine → State → Event → Type 0
+RefusedWhole engine s e = Refuses s (event (waker engine) s e)
 
 -- Demand 3, for one list of events from a fresh host.
 pub record EnginesAgree (events : List Event) : Type 0 where
