@@ -113,7 +113,7 @@ module _ {sets : List Set} (counts : All (λ (k : Set). k .count ≤ semaphores)
   module _ (t : Table) where
     -- two rounds over q from position i on find the same
     data Same (i : ℕ) (q : List Sleeper) : Round → Round → Type 0 where
-      idle : {l l′ : ℕ} → l ≤ l′ → All (Rests slot t) q → Same i q (nobody l) (nobody l′)
+      idle : {l l′ m m′ : ℕ} → l ≤ l′ → All (Rests slot t) q → Same i q (nobody l m) (nobody l′ m′)
       picks : {l l′ m m′ : ℕ} (j : ℕ) → j < length q → mine slot (getD q j noSleeper) ≡ true → couldFinish t (getD q j noSleeper) ≡ true → l ≤ l′
           → All (Watched slot t m) (without q j) → Same i q (finished (i + j) l m) (finished (i + j) l′ m′)
 

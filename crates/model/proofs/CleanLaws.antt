@@ -67,10 +67,10 @@ module _ {sets : List Set} (counts : All (λ (k : Set). k .count ≤ semaphores)
       let u : Unused t slot n = clean slot n hs hc hn in
       record {
         value = getD-paste Zero (t .values) (row (s .slot)) (c .values) semaphores (row slot + n) 0 (omega (arith, g .values)) (omega (arith, k .values))
-        (λ h. u .value) (λ i lt e. same i lt (omega arith) (omega arith) .value);
+            (λ h. u .value) (λ i lt e. same i lt (omega arith) (omega arith) .value);
         last = lasts-zero (t .lasts) (s .slot) (s .process) (operationsOf (s .array)) (row slot + n) (u .last) (all-zip unnamed (numbers-fit counts s f) (f .numbers));
         adjustment = λ p lp mp. getD-paste ZeroZ (t .adjustments) (undoRow (s .process) (s .slot)) (c .adjustments) semaphores (undoRow p slot + n) (pos 0)
-        (omega (arith, g .adjustments)) (omega (arith, k .adjustments)) (λ h. u .adjustment p lp mp) (λ i lt e. same i lt (omega arith) (omega arith) .adjustment);
+            (omega (arith, g .adjustments)) (omega (arith, k .adjustments)) (λ h. u .adjustment p lp mp) (λ i lt e. same i lt (omega arith) (omega arith) .adjustment);
       }
     where
       same : (i : ℕ) → i < semaphores → slot ≡ s .slot → n ≡ i → Idle i c
@@ -193,10 +193,10 @@ exited-clean sets t p g hp hq clean slot n hs hc hn =
     let z : undoRow p 0 + (row slot + n) ≡ undoRow p slot + n = omega arith in
     record {
       value = undoAll-zero (t .values) (slice (undoRow p 0) (undoRow p 0 + allSemaphores) (t .adjustments)) (row slot + n) (u .value)
-      (getD-slice (undoRow p 0) (undoRow p 0 + allSemaphores) (t .adjustments) (row slot + n) (pos 0) (omega arith) ∙ rw z (u .adjustment p hp hq));
+          (getD-slice (undoRow p 0) (undoRow p 0 + allSemaphores) (t .adjustments) (row slot + n) (pos 0) (omega arith) ∙ rw z (u .adjustment p hp hq));
       last = u .last;
       adjustment = λ p′ hp′ hq′. getD-paste ZeroZ (t .adjustments) (undoRow p 0) (replicate allSemaphores (pos 0)) allSemaphores (undoRow p′ slot + n) (pos 0)
-      (omega (arith, g .adjustments)) (omega (arith, length-replicate allSemaphores (pos 0))) (λ h. u .adjustment p′ hp′ hq′) (λ k lt e. getD-replicate allSemaphores k (pos 0) (pos 0) lt);
+          (omega (arith, g .adjustments)) (omega (arith, length-replicate allSemaphores (pos 0))) (λ h. u .adjustment p′ hp′ hq′) (λ k lt e. getD-replicate allSemaphores k (pos 0) (pos 0) lt);
     }
 
 -- ---- a waking

@@ -97,7 +97,7 @@ next-ranged a amount z e = go (ltZ (a -ℤ amount) (negsuc (valueMax - 1))) refl
 step-leaves : (P : Copies → Type 0) (c : Copies) (o : Operation) (i : ℕ) → P c
     → ((v : ℕ) → nextValue (getD (c .values) (o .number) 0) (o .amount) ≡ next.To v → P (withValue c (o .number) v))
     → ((v : ℕ) (a : ℤ) → P (withValue c (o .number) v) → nextAdjustment (getD (c .adjustments) (o .number) (pos 0)) (o .amount) ≡ undo.To a
-        → P (withAdjustment (withValue c (o .number) v) (o .number) a))
+    → P (withAdjustment (withValue c (o .number) v) (o .number) a))
     → P (step c o i .copies)
 unfolding step
 step-leaves P c o i h value adjustment = go (nextValue (getD (c .values) (o .number) 0) (o .amount)) refl

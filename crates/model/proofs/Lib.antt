@@ -15,6 +15,7 @@ pub mod WakingLaws
 pub mod Rules
 pub mod Calm
 pub mod CleanLaws
+pub mod Unmarked
 -- a refused event changes nothing, the two engines agree, and the situations:
 pub mod Refusals
 pub mod Agree

@@ -16,7 +16,7 @@ use Rattle.model.specs.Marks.{bitOf, marked, unmark, namedBy, named, dif
 use Rattle.model.specs.Runs.{All, none, also}
 use Rattle.model.proofs.Lists.{all-map}
 use Rattle.model.specs.Invariant.{Other}
-use Rattle.model.proofs.Bits.{bit, bit-or-same, bit-or-keeps, bit-xor-other, bit-xor-same, hasBit-bit, hasBit-none}
+use Rattle.model.proofs.Bits.{bit, bit-or-same, bit-or-keeps, bit-xor-other, hasBit-bit, hasBit-none}
 
 -- ---- marks
 
@@ -30,11 +30,6 @@ unmark-other m p q hp hq o =
     marked-bit (unmark m p) q
     ∙ ap (λ (x : ℕ). eqb x 1) (bit-xor-other m (p .process - 1) (q .process - 1) (λ e. o (omega arith)))
     ∙ sym (marked-bit m q)
-
-pub unmark-same : (m : ℕ) (s : Sleeper) → marked m s ≡ true → marked (unmark m s) s ≡ false
-unfolding unmark
-unmark-same m s h =
-    marked-bit (unmark m s) s ∙ ap (λ (x : ℕ). eqb x 1) (bit-xor-same m (s .process - 1) (eqb-true (bit m (s .process - 1)) 1 (sym (marked-bit m s) ∙ h)))
 
 mark-same : (m : ℕ) (s : Sleeper) → marked (bitOr m (bitOf (s .process))) s ≡ true
 mark-same m s = marked-bit _ s ∙ eq-eqb _ 1 (bit-or-same m (s .process - 1))

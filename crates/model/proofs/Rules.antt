@@ -80,7 +80,7 @@ module _ (test : Sleeper → Bool) where
 
 module _ (t : Table) (sees : ℕ → Sleeper → Bool) (off : ℕ → Sleeper → ℕ) where
   unfoldable pub scan : List Sleeper → ℕ → ℕ → ℕ → Round
-  scan [] i l m = nobody l
+  scan [] i l m = nobody l m
   scan (s ∷ q) i l m = passed (sees m s) (couldFinish t s) i l m (off m s) (λ l′ m′. scan q (i + 1) l′ m′)
 
 passed-alike : (b e : Bool) (i l m m′ : ℕ) (r r′ : ℕ → ℕ → Round) → ((l m : ℕ) → r l m ≡ r′ l m) → passed b e i l m m′ r ≡ passed b e i l m m′ r′
@@ -101,14 +101,14 @@ module _ (t : Table) (slot : ℕ) where
 
   -- what a round over q from position i on finds: nobody, or a sleeper of the set who could finish; it looks at sleepers of the set only
   pub data Fair (q : List Sleeper) (i l : ℕ) : Round → Type 0 where
-    idle : {l′ : ℕ} → l ≤ l′ → l′ ≤ l + countOf (mine slot) q → Fair q i l (nobody l′)
+    idle : {l′ m : ℕ} → l ≤ l′ → l′ ≤ l + countOf (mine slot) q → Fair q i l (nobody l′ m)
     picks : {l′ m : ℕ} (j : ℕ) → j < length q → mine slot (getD q j noSleeper) ≡ true → couldFinish t (getD q j noSleeper) ≡ true
         → l ≤ l′ → l′ ≤ l + countOf (mine slot) q → Fair q i l (finished (i + j) l′ m)
 
   -- a sleeper more in front
   ahead : (s : Sleeper) (q : List Sleeper) (i l n : ℕ) (r : Round) → n ≤ cond (mine slot s) 1 0 → Fair q (i + 1) (l + n) r → Fair (s ∷ q) i l r
   unfolding countOf
-  ahead s q i l n r h (idle {l′ = l′} a b) = idle {l′ = l′} (omega arith) (omega arith)
+  ahead s q i l n r h (idle {l′ = l′} {m = m} a b) = idle {l′ = l′} {m = m} (omega arith) (omega arith)
   ahead s q i l n r h (picks {l′ = l′} {m = m} j lt mi e a b) =
       let z : i + 1 + j ≡ i + suc j = omega arith in
       rw z (picks {l′ = l′} {m = m} (suc j) (omega arith) mi e (omega arith) (omega arith))
@@ -116,7 +116,7 @@ module _ (t : Table) (slot : ℕ) where
   module _ (sees : ℕ → Sleeper → Bool) (off : ℕ → Sleeper → ℕ) (own : (m : ℕ) (s : Sleeper) → sees m s ≡ true → mine slot s ≡ true) where
     pub scan-fair : (q : List Sleeper) (i l m : ℕ) → Fair q i l (scan t sees off q i l m)
     unfolding scan countOf
-    scan-fair [] i l m = idle {l′ = l} (omega arith) (omega arith)
+    scan-fair [] i l m = idle {l′ = l} {m = m} (omega arith) (omega arith)
     scan-fair (s ∷ q) i l m = go (sees m s) refl (couldFinish t s) refl (scan-fair q (i + 1))
       where
         go : (b : Bool) → sees m s ≡ b → (e : Bool) → couldFinish t s ≡ e → ((l m : ℕ) → Fair q (i + 1) l (scan t sees off q (i + 1) l m))
@@ -145,7 +145,7 @@ module _ (sees : ℕ → Sleeper → Bool) (off : ℕ → Sleeper → ℕ) (mark
   rule (suc n) m w l = afterRound w (λ i l′ m′. rule n (marks w (finish w i) m′) (finish w i) l′) (scan (w .table) sees off (w .queue) 0 l m)
 
 after-alike : (w : World) (a a′ : ℕ → ℕ → ℕ → Ended) (r : Round) → ((i l m : ℕ) → a i l m ≡ a′ i l m) → afterRound w a r ≡ afterRound w a′ r
-after-alike w a a′ (nobody l) h = refl
+after-alike w a a′ (nobody l m) h = refl
 after-alike w a a′ (finished i l m) h = h i l m
 
 module _ (slot : ℕ) where

@@ -18,11 +18,11 @@ unseen false = refl
 -- ---- a round at position i of the queue q
 
 module _ (t : Table) (slot : ℕ) (q : List Sleeper) (i l m : ℕ) where
-  pub plain-end : length q ≤ i → plainRound t slot (drop i q) i l m ≡ nobody l
+  pub plain-end : length q ≤ i → plainRound t slot (drop i q) i l m ≡ nobody l m
   unfolding plainRound
   plain-end h = rw (drop-of-length-le q h)
 
-  pub quick-end : length q ≤ i → quickRound t slot (drop i q) i l m ≡ nobody l
+  pub quick-end : length q ≤ i → quickRound t slot (drop i q) i l m ≡ nobody l m
   unfolding quickRound
   quick-end h = rw (drop-of-length-le q h)
 
@@ -73,19 +73,19 @@ finish-wakings w i = length-append (w .wakings) _
 
 module _ (slot : ℕ) (w : World) (l : ℕ) where
   -- nobody is finished: the world stays
-  pub plain-over : (l′ : ℕ) → plainRound (w .table) slot (w .queue) 0 l 0 ≡ nobody l′ → plain (length (w .queue)) slot w l ≡ record { world = w; looks = l′ }
+  pub plain-over : (l′ m′ : ℕ) → plainRound (w .table) slot (w .queue) 0 l 0 ≡ nobody l′ m′ → plain (length (w .queue)) slot w l ≡ record { world = w; looks = l′ }
   unfolding plain plainRound
-  plain-over l′ = go (w .queue) refl
+  plain-over l′ m′ = go (w .queue) refl
     where
-      go : (q : List Sleeper) → w .queue ≡ q → plainRound (w .table) slot q 0 l 0 ≡ nobody l′ → plain (length q) slot w l ≡ record { world = w; looks = l′ }
+      go : (q : List Sleeper) → w .queue ≡ q → plainRound (w .table) slot q 0 l 0 ≡ nobody l′ m′ → plain (length q) slot w l ≡ record { world = w; looks = l′ }
       go [] eq e = cc
       go (s ∷ q) eq e = rw (eq, plain, e)
 
-  pub quick-over : (m l′ : ℕ) → quickRound (w .table) slot (w .queue) 0 l m ≡ nobody l′ → quick (length (w .queue)) slot m w l ≡ record { world = w; looks = l′ }
+  pub quick-over : (m l′ m′ : ℕ) → quickRound (w .table) slot (w .queue) 0 l m ≡ nobody l′ m′ → quick (length (w .queue)) slot m w l ≡ record { world = w; looks = l′ }
   unfolding quick quickRound
-  quick-over m l′ = go (w .queue) refl
+  quick-over m l′ m′ = go (w .queue) refl
     where
-      go : (q : List Sleeper) → w .queue ≡ q → quickRound (w .table) slot q 0 l m ≡ nobody l′ → quick (length q) slot m w l ≡ record { world = w; looks = l′ }
+      go : (q : List Sleeper) → w .queue ≡ q → quickRound (w .table) slot q 0 l m ≡ nobody l′ m′ → quick (length q) slot m w l ≡ record { world = w; looks = l′ }
       go [] eq e = cc
       go (s ∷ q) eq e = rw (eq, quick, e)
 

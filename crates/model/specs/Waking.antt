@@ -25,7 +25,7 @@ pub record Ended : Type 0 where
 
 -- A round finishes nobody, or the sleeper at a position; with the looks so far, and the marks that are left.
 pub data Round : Type 0 where
-  nobody : ℕ → Round
+  nobody : ℕ → ℕ → Round
   finished : ℕ → ℕ → ℕ → Round
 
 -- would a look finish the sleeper?
@@ -61,7 +61,7 @@ passed true false i l m m′ rest = rest (l + 1) m′
 
 -- "look from the oldest on", from position i
 unfoldable pub plainRound : Table → ℕ → List Sleeper → ℕ → ℕ → ℕ → Round
-plainRound t slot [] i l m = nobody l
+plainRound t slot [] i l m = nobody l m
 plainRound t slot (s ∷ q) i l m = passed (mine slot s) (couldFinish t s) i l m m (λ l′ m′. plainRound t slot q (i + 1) l′ m′)
 
 -- both, the first deciding
@@ -71,12 +71,12 @@ both false b = false
 
 -- "A round looks at marked sleepers only, oldest first, and each look takes the mark off."
 unfoldable pub quickRound : Table → ℕ → List Sleeper → ℕ → ℕ → ℕ → Round
-quickRound t slot [] i l m = nobody l
+quickRound t slot [] i l m = nobody l m
 quickRound t slot (s ∷ q) i l m = passed (both (mine slot s) (marked m s)) (couldFinish t s) i l m (unmark m s) (λ l′ m′. quickRound t slot q (i + 1) l′ m′)
 
 -- what follows a round: the end, or what begins again once a sleeper is finished
 abbrev pub afterRound : World → (ℕ → ℕ → ℕ → Ended) → Round → Ended
-afterRound w again (nobody l) = record { world = w; looks = l }
+afterRound w again (nobody l m) = record { world = w; looks = l }
 afterRound w again (finished i l m) = again i l m
 
 -- "at the first that is finished, take it out and begin again at the oldest; end when a whole round finishes nobody, or none
@@ -92,6 +92,15 @@ remark slot w w′ m = markTouched slot (differing 0 0 (valuesOf (w .table) slot
 unfoldable pub quick : ℕ → ℕ → ℕ → World → ℕ → Ended
 quick zero slot m w l = record { world = w; looks = l }
 quick (suc n) slot m w l = afterRound w (λ i l′ m′. quick n slot (remark slot w (finish w i) m′) (finish w i) l′) (quickRound (w .table) slot (w .queue) 0 l m)
+
+-- the marks that the quick rule ends with: those that its last round leaves
+abbrev pub marksAfter : (ℕ → ℕ → ℕ → ℕ) → Round → ℕ
+marksAfter again (nobody l m) = m
+marksAfter again (finished i l m) = again i l m
+
+unfoldable pub marksLeft : ℕ → ℕ → ℕ → World → ℕ → ℕ
+marksLeft zero slot m w l = m
+marksLeft (suc n) slot m w l = marksAfter (λ i l′ m′. marksLeft n slot (remark slot w (finish w i) m′) (finish w i) l′) (quickRound (w .table) slot (w .queue) 0 l m)
 
 -- How a set is treated: its slot, its touched semaphores, the world, and the looks so far.
 abbrev pub Waker : Type 0

@@ -28,19 +28,19 @@ unmarked : (s : Sleeper) → marked 0 s ≡ false
 unfolding marked
 unmarked s = refl
 
-round-unmarked : (t : Table) (slot : ℕ) (q : List Sleeper) (i l : ℕ) → quickRound t slot q i l 0 ≡ nobody l
+round-unmarked : (t : Table) (slot : ℕ) (q : List Sleeper) (i l : ℕ) → quickRound t slot q i l 0 ≡ nobody l 0
 unfolding quickRound
 round-unmarked t slot [] i l = refl
 round-unmarked t slot (s ∷ q) i l = go (mine slot s) refl (round-unmarked t slot q (i + 1) l)
   where
-    go : (b : Bool) → mine slot s ≡ b → quickRound t slot q (i + 1) l 0 ≡ nobody l → quickRound t slot (s ∷ q) i l 0 ≡ nobody l
+    go : (b : Bool) → mine slot s ≡ b → quickRound t slot q (i + 1) l 0 ≡ nobody l 0 → quickRound t slot (s ∷ q) i l 0 ≡ nobody l 0
     go true e r = rw (quickRound, e, unmarked s) r
     go false e r = rw (quickRound, e) r
 
 -- the quick rule without marks leaves everything
 pub quick-nobody : (slot : ℕ) (x : Lent) (l : ℕ) → Ready x → record { lent = x; looks = l } ≡ quickly slot 0 x l
 quick-nobody slot x l r =
-    rw (quick-over slot (worldIn x) l 0 l (round-unmarked (worldIn x .table) slot (worldIn x .queue) 0 l)) (ap (λ (y : Lent). record { lent = y; looks = l }) (r .holds))
+    rw (quick-over slot (worldIn x) l 0 l 0 (round-unmarked (worldIn x .table) slot (worldIn x .queue) 0 l)) (ap (λ (y : Lent). record { lent = y; looks = l }) (r .holds))
 
 -- ---- a round
 
@@ -119,12 +119,12 @@ module _ (slot : ℕ) (x : Lent) (r : Ready x) (l₀ m₀ i l m : ℕ) (t : Quic
             (left-over x w _ ∙ ap (leftWith x) (sym (quick-again slot (worldIn x) l₀ i (l + 1) (within x r i h) m₀ _ found))))
 
   -- the round is over, and with it the rule
-  ended : quickRound (worldIn x .table) slot (drop i (worldIn x .queue)) i l m ≡ nobody l → record { lent = x; looks = l } ≡ quickly slot m₀ x l₀
-  ended e = rw (quick-over slot (worldIn x) l₀ m₀ l (sym (t .round) ∙ e)) (ap (λ (y : Lent). record { lent = y; looks = l }) (r .holds))
+  ended : (m′ : ℕ) → quickRound (worldIn x .table) slot (drop i (worldIn x .queue)) i l m ≡ nobody l m′ → record { lent = x; looks = l } ≡ quickly slot m₀ x l₀
+  ended m′ e = rw (quick-over slot (worldIn x) l₀ m₀ l m′ (sym (t .round) ∙ e)) (ap (λ (y : Lent). record { lent = y; looks = l }) (r .holds))
 
   pub quick-done : asleepIn (x .host .row) ≤ i → record { lent = x; looks = l } ≡ quickly slot m₀ x l₀
-  quick-done h = ended (quick-end (worldIn x .table) slot (worldIn x .queue) i l m (omega (arith, asleep-all x r)))
+  quick-done h = ended m (quick-end (worldIn x .table) slot (worldIn x .queue) i l m (omega (arith, asleep-all x r)))
 
   -- no mark is left
   pub quick-spent : m ≡ 0 → record { lent = x; looks = l } ≡ quickly slot m₀ x l₀
-  quick-spent z = ended (rw z (round-unmarked (worldIn x .table) slot (drop i (worldIn x .queue)) i l))
+  quick-spent z = ended 0 (rw z (round-unmarked (worldIn x .table) slot (drop i (worldIn x .queue)) i l))

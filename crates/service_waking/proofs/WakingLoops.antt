@@ -119,5 +119,5 @@ module _ (slot : ℕ) (x : Lent) (r : Ready x) (l₀ i l : ℕ) (t : PlainTurn s
   -- the round is over, and with it the rule
   pub plain-done : asleepIn (x .host .row) ≤ i → record { lent = x; looks = l } ≡ plainly slot x l₀
   plain-done h =
-      let over : plainRound (worldIn x .table) slot (worldIn x .queue) 0 l₀ 0 ≡ nobody l = sym (t .round) ∙ plain-end (worldIn x .table) slot (worldIn x .queue) i l 0 (omega (arith, asleep-all x r)) in
-      rw (plain-over slot (worldIn x) l₀ l over) (ap (λ (y : Lent). record { lent = y; looks = l }) (r .holds))
+      let over : plainRound (worldIn x .table) slot (worldIn x .queue) 0 l₀ 0 ≡ nobody l 0 = sym (t .round) ∙ plain-end (worldIn x .table) slot (worldIn x .queue) i l 0 (omega (arith, asleep-all x r)) in
+      rw (plain-over slot (worldIn x) l₀ l 0 over) (ap (λ (y : Lent). record { lent = y; looks = l }) (r .holds))
