@@ -134,7 +134,7 @@ pub struct Told {
     pub woken: usize,
 }
 
-// What a query answers. The host stays as it is.
+// What a query answers; its looks are 0 like those of every event that wakes nobody. The host stays as it is.
 pub struct Queried {
     pub code: i32,
     pub value: u16,
@@ -143,6 +143,7 @@ pub struct Queried {
     pub zero: u32,
     pub increase_mask: u8,
     pub zero_mask: u8,
+    pub looks: usize,
 }
 
 // What any event answers.

@@ -28,7 +28,7 @@ module _ (position : ℕ) (r : Result) where
   unfolding lineOf
   reply-line e = by (isQuery e)
     where
-      by : (b : Bool) → replyText position (listOf (r .wakings)) (cond b (reply.Seen (queriedOf (r .answer))) (reply.Told (toldOf r))) ≡ cond b (queryLine position (r .answer)) (eventLine position r)
+      by : (b : Bool) → replyText position (listOf (r .wakings)) (cond b (reply.Seen (queriedOf r)) (reply.Told (toldOf r))) ≡ cond b (queryLine position (r .answer)) (eventLine position r)
       by true = refl
       by false = told
 

@@ -37,7 +37,7 @@ use Rattle.service_waking.specs.Lent.{Settleable}
 use Rattle.service_waking.proofs.SettleLaws.{settled-process, settled-array}
 use Rattle.service_waking.proofs.Marking.{shifted, mask-at}
 use Rattle.service.specs.declared.events.query.Waiters.{Waiters}
-use Rattle.service.specs.After.{queriedOf}
+use Rattle.service.specs.After.{queriedOf, showing}
 use Rattle.service.specs.Waiting.{bitIf, waitsOf, waitersOf}
 use Rattle.service.proofs.EventLaws.{held-invariant, held-row, held-counts}
 
@@ -233,12 +233,12 @@ module _ {t : Table} {slot n : ℕ} {q : List Sleeper} where
 
 -- ---- query
 
-refuses : (code : ℕ) (r : Result) (s : _) → (code ≡ 0 → ⊥) → queriedOf (answer (pos code)) ≡ queriedOf (checked code s r .answer)
+refuses : (code : ℕ) (r : Result) (s : _) → (code ≡ 0 → ⊥) → showing (answer (pos code)) 0 ≡ queriedOf (checked code s r)
 refuses zero r s n = absurd (n refl)
 refuses (suc code) r s n = refl
 
 module _ (x : Host) (k : Held x) (i : ℤ) (n : ℕ) where
-  pub query-refused : {code : ℕ} → code ≡ checkNumber (stateIn x) i n → (code ≡ 0 → ⊥) → queriedOf (answer (pos code)) ≡ queriedOf (doQuery (stateIn x) i n .answer)
+  pub query-refused : {code : ℕ} → code ≡ checkNumber (stateIn x) i n → (code ≡ 0 → ⊥) → showing (answer (pos code)) 0 ≡ queriedOf (doQuery (stateIn x) i n)
   unfolding doQuery
   query-refused {code} e z = rw (← e) (refuses code _ (stateIn x) z)
 
@@ -259,8 +259,9 @@ module _ (x : Host) (k : Held x) (i : ℤ) (n : ℕ) where
         zero = ones (w .zero);
         «increase_mask» = w .increase;
         «zero_mask» = w .zero;
+        looks = 0;
       }
-      ≡ queriedOf (doQuery (stateIn x) i n .answer)
+      ≡ queriedOf (doQuery (stateIn x) i n)
   unfolding doQuery seenAt
   queried {slot} {value} {last} {w} z es ew ev el =
       let v = held-invariant x k in

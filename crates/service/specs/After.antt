@@ -33,9 +33,9 @@ toldOf r = telling (r .answer .code) (r .answer .value) (r .looks) (length (r .w
 abbrev pub afterOf : Result → After
 afterOf r = record { host = hostOf (r .state); wakings = listOf (r .wakings); told = toldOf r }
 
--- a query's answer
-abbrev pub queriedOf : Answer → Queried
-queriedOf a =
+-- a query's answer, with its looks
+abbrev pub showing : Answer → ℕ → Queried
+showing a looks =
     record {
       code = a .code;
       value = a .value;
@@ -44,13 +44,18 @@ queriedOf a =
       zero = a .seen .zero;
       «increase_mask» = a .seen .increaseMask;
       «zero_mask» = a .seen .zeroMask;
+      looks = looks;
     }
+
+-- .. of a result
+abbrev pub queriedOf : Result → Queried
+queriedOf r = showing (r .answer) (r .looks)
 
 -- ---- any event
 
 -- "an answer is all that an event returns beside state, looks and wakings": what a query shows, and what any other event tells
 abbrev pub replyOf : Event → Result → Reply
-replyOf e r = cond (isQuery e) (reply.Seen (queriedOf (r .answer))) (reply.Told (toldOf r))
+replyOf e r = cond (isQuery e) (reply.Seen (queriedOf r)) (reply.Told (toldOf r))
 
 pub record Replied : Type 0 where
   pub host : Host

@@ -8,7 +8,7 @@ ghost use Rattle.model.specs.State.{noSleeper};
 ghost use Rattle.model.specs.Events.{answer as answerOf, doQuery};
 ghost use Rattle.host.specs.Holding.{Held, hostIn, stateIn, tableIn, queueIn};
 ghost use Rattle.service_table.specs.Numbered.{IsSlot};
-ghost use Rattle.service.specs.After.{queriedOf};
+ghost use Rattle.service.specs.After.{queriedOf, showing};
 ghost use Rattle.service.specs.Waiting.{waitsOf, waitersOf};
 use host::HOST_BYTES;
 use host::array_of;
@@ -112,7 +112,7 @@ fn all_waiters(
 
 // A refused query: zeros after the code.
 fn refused(code: u8) -> Queried
-    ensures { λ r. ⌜ r ≡ queriedOf (answerOf (pos code)) ⌝ }
+    ensures { λ r. ⌜ r ≡ showing (answerOf (pos code)) 0 ⌝ }
 {
     Queried {
         code: answer(code),
@@ -122,6 +122,7 @@ fn refused(code: u8) -> Queried
         zero: 0,
         increase_mask: 0,
         zero_mask: 0,
+        looks: 0,
     }
 }
 
@@ -133,7 +134,7 @@ pub fn query(
     number: u16,
 ) -> Queried
     requires { ⌜ Held (hostIn (now host) (now adjustments)) ⌝ }
-    ensures { λ r. ⌜ r ≡ queriedOf (doQuery (stateIn (hostIn (now (host .entry)) (now (adjustments .entry)))) identifier number .answer) ⌝ }
+    ensures { λ r. ⌜ r ≡ queriedOf (doQuery (stateIn (hostIn (now (host .entry)) (now (adjustments .entry)))) identifier number) ⌝ }
 {
     let code = check_number(host, identifier, number);
     if code != 0 {
@@ -150,5 +151,6 @@ pub fn query(
         zero: u8::count_ones(w.zero),
         increase_mask: w.increase,
         zero_mask: w.zero,
+        looks: 0,
     }
 }

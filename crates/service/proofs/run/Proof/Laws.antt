@@ -27,7 +27,7 @@ module _ (s : State) (does : Result) where
   none-woken zero e = e
   none-woken (suc c) e = refl
 
-pub seen : (x : Host) → Held x → (i : ℤ) (n : ℕ) {l : List Waking} {q : Queried} → l ≡ listOf [] → q ≡ queriedOf (doQuery (stateIn x) i n .answer)
+pub seen : (x : Host) → Held x → (i : ℤ) (n : ℕ) {l : List Waking} {q : Queried} → l ≡ listOf [] → q ≡ queriedOf (doQuery (stateIn x) i n)
     → record { host = x; wakings = l; reply = reply.Seen q } ≡ repliedOf (query i n) (doQuery (stateIn x) i n)
 unfolding doQuery
 seen x k i n {l} {q} el eq =
