@@ -2,3 +2,5 @@
 pub mod EventLaws
 pub mod SlotLaws
 pub mod QueryLaws
+pub mod ReplyLaws
+pub mod Calls

@@ -1,7 +1,7 @@
 -- What an event leaves and answers: the host, the list of wakings, and what it tells.
 use Prim.Native.Nat.{ℕ}
 use mathlib.Core.Bool.{cond}
-use mathlib.Core.List.{List}
+use mathlib.Core.List.{List, []}
 use lib.ListN.{length}
 use lib.IntN.{ℤ}
 use Rattle.model.specs.declared.Waking.{Waking}
@@ -61,6 +61,13 @@ pub record Replied : Type 0 where
   pub host : Host
   pub wakings : List Waking
   pub reply : Reply
+
+-- what a call that tells leaves and returns; and one that shows, which returns no host and is lent no list
+abbrev pub tells : After → Replied
+tells y = record { host = y .host; wakings = y .wakings; reply = reply.Told (y .told) }
+
+abbrev pub shows : Host → Queried → Replied
+shows x q = record { host = x; wakings = listOf []; reply = reply.Seen q }
 
 abbrev pub repliedIn : List ℕ → List ℤ → List ℕ → Reply → Replied
 repliedIn h adjustments list r = record { host = hostIn h adjustments; wakings = wakingsIn list; reply = r }

@@ -1,3 +1,4 @@
 -- What an event leaves and answers.
 pub mod After
 pub mod Waiting
+pub mod Calls

@@ -1,11 +1,11 @@
 -- `service::run` meets its contract.
-mod Laws
 use mathlib.Core.Path.{ap}
 use mir.Syntax.{w32}
 use mir.Facts.{toZ-ofZ}
 use Rattle.model.specs.Events.{event}
 use Rattle.host.specs.Holding.{hostIn}
-use Rattle.service.proofs.run.Proof.Laws.{replied, seen}
+use Rattle.service.specs.After.{tells}
+use Rattle.service.proofs.ReplyLaws.{seen}
 use borrow.Author.Needs.{needs}
 use Rattle.service.proofs.run.Statement.{statement}
 use Rattle.service.proofs.run.Tie as tie
@@ -57,27 +57,27 @@ query-requires c κs = search needs
 
 returns : tie.Need-returns
 unfolding event
-returns c = rw (c .before .before .before .before .before .event .given .1) (ap replied (c .create .ensures))
+returns c = rw (c .before .before .before .before .before .event .given .1) (ap tells (c .create .ensures))
 
 returns-2 : tie.Need-returns-2
 unfolding event
-returns-2 c = let e0 = toZ-ofZ {w = w32} {z = c .before .before .before .before .before .event2 .given .0 .1 .0} (record { sfits = c .before .before .before .before .known-told2 .given .1 .0 .1 }) in rw (c .before .before .before .before .before .event2 .given .1) (ap replied (rw (e0) at (c .operate .ensures)))
+returns-2 c = let e0 = toZ-ofZ {w = w32} {z = c .before .before .before .before .before .event2 .given .0 .1 .0} (record { sfits = c .before .before .before .before .known-told2 .given .1 .0 .1 }) in rw (c .before .before .before .before .before .event2 .given .1) (ap tells (rw (e0) at (c .operate .ensures)))
 
 returns-3 : tie.Need-returns-3
 unfolding event
-returns-3 c = let e0 = toZ-ofZ {w = w32} {z = c .before .before .before .before .before .event3 .given .0 .0} (record { sfits = c .before .before .before .before .known-told3 .given .0 .1 }) in let e1 = toZ-ofZ {w = w32} {z = c .before .before .before .before .before .event3 .given .0 .1 .1 .0} (record { sfits = c .before .before .before .before .known-told3 .given .1 .1 .0 .1 }) in rw (c .before .before .before .before .before .event3 .given .1) (ap replied (rw (e0, e1) at (c .set-value .ensures)))
+returns-3 c = let e0 = toZ-ofZ {w = w32} {z = c .before .before .before .before .before .event3 .given .0 .0} (record { sfits = c .before .before .before .before .known-told3 .given .0 .1 }) in let e1 = toZ-ofZ {w = w32} {z = c .before .before .before .before .before .event3 .given .0 .1 .1 .0} (record { sfits = c .before .before .before .before .known-told3 .given .1 .1 .0 .1 }) in rw (c .before .before .before .before .before .event3 .given .1) (ap tells (rw (e0, e1) at (c .set-value .ensures)))
 
 returns-4 : tie.Need-returns-4
 unfolding event
-returns-4 c = let e0 = toZ-ofZ {w = w32} {z = c .before .before .before .before .before .event4 .given .0 .0} (record { sfits = c .before .before .before .before .known-told4 .given .0 .1 }) in rw (c .before .before .before .before .before .event4 .given .1) (ap replied (rw (e0) at (c .remove .ensures)))
+returns-4 c = let e0 = toZ-ofZ {w = w32} {z = c .before .before .before .before .before .event4 .given .0 .0} (record { sfits = c .before .before .before .before .known-told4 .given .0 .1 }) in rw (c .before .before .before .before .before .event4 .given .1) (ap tells (rw (e0) at (c .remove .ensures)))
 
 returns-5 : tie.Need-returns-5
 unfolding event
-returns-5 c = rw (c .before .before .before .before .before .event5 .given .1) (ap replied (c .signal .ensures))
+returns-5 c = rw (c .before .before .before .before .before .event5 .given .1) (ap tells (c .signal .ensures))
 
 returns-6 : tie.Need-returns-6
 unfolding event
-returns-6 c = rw (c .before .before .before .before .before .event6 .given .1) (ap replied (c .exit .ensures))
+returns-6 c = rw (c .before .before .before .before .before .event6 .given .1) (ap tells (c .exit .ensures))
 
 returns-7 : tie.Need-returns-7
 unfolding event

@@ -1,4 +1,4 @@
--- Any event: what it tells, or a query shows, is the reply.
+-- A query changes nothing: what it shows, with the host and no wakings, is its reply.
 use Prim.Native.Nat.{ℕ, zero, suc}
 use mathlib.Core.Path.{_≡_, refl, sym, ap, ap₂, _∙_}
 use mathlib.Core.List.{List, []}
@@ -11,11 +11,7 @@ use Rattle.model.specs.Checks.{checkNumber}
 use Rattle.model.specs.Events.{query, Result, checked, doQuery}
 use Rattle.host.specs.Holding.{Host, hostOf, stateIn, Held}
 use Rattle.wakings.specs.Wakings.{listOf}
-use Rattle.service.specs.After.{After, Replied, queriedOf, repliedOf}
-
--- what is told is the reply
-abbrev pub replied : After → Replied
-replied a = record { host = a .host; wakings = a .wakings; reply = reply.Told (a .told) }
+use Rattle.service.specs.After.{queriedOf, repliedOf}
 
 -- a query changes nothing
 module _ (s : State) (does : Result) where

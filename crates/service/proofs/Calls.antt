@@ -1,0 +1,113 @@
+-- Calls of the code agree with the engine's run, step by step; and those of both engines with each other (specs/Calls.antt).
+use mathlib.Core.Path.{_≡_, refl, sym, ap, ap₂, subst, _∙_}
+use mathlib.Core.Bool.{Bool, true, false, cond}
+use mathlib.Core.List.{List, _∷_}
+use lib.ListN.{length}
+use Rattle.model.specs.declared.Engine.{Engine}
+use Rattle.model.specs.declared.Engine.the-variants.{Plain, Quick}
+use Rattle.model.specs.declared.Waking.{Waking}
+use Rattle.model.specs.declared.Reply.the-variants as reply
+use Rattle.model.specs.State.{freshState}
+use Rattle.model.specs.Waking.{waker}
+use Rattle.model.specs.Events.{Event, isQuery, Answer, Result, event}
+use Rattle.model.specs.Runs.{run, came, start, Pairwise, end}
+use Rattle.model.specs.Runs as lists
+use Rattle.model.proofs.EventLaws.{Agrees}
+use Rattle.model.proofs.Engines.{event-agrees, reached, engines-agree}
+use Rattle.host.specs.Holding.{Host, hostOf, stateIn, Held}
+use Rattle.host.proofs.HeldLaws.{state-back, held-fresh, held-next}
+use Rattle.wakings.specs.Wakings.{listOf}
+use Rattle.service.specs.After.{telling, toldOf, showing, queriedOf, Replied, tells, repliedOf}
+use Rattle.service.specs.Calls.{Call, creates, operates, setsValue, removes, signals, exits, queries, runs, Called, over, next, lastHost, repliesOf, CallsAlike, CallsAgree}
+use Rattle.service.proofs.ReplyLaws.{seen}
+
+-- ---- one call
+
+-- any function leaves and returns what the event gives
+call-is : (engine : Engine) (x : Host) → Held x → (e : Event) (y : Replied) → Call engine x e y → y ≡ repliedOf e (event (waker engine) (stateIn x) e)
+unfolding event
+call-is engine x k e y (creates count read alter a h) = ap tells h
+call-is engine x k e y (operates p i bytes a h) = ap tells h
+call-is engine x k e y (setsValue i n v a h) = ap tells h
+call-is engine x k e y (removes i a h) = ap tells h
+call-is engine x k e y (signals p a h) = ap tells h
+call-is engine x k e y (exits p a h) = ap tells h
+call-is engine x k e y (queries i n q h) = seen x k i n refl h
+call-is engine x k e y (runs d bytes a h) = h
+
+-- .. and a host that holds the state after it
+module _ (engine : Engine) (x : Host) (k : Held x) (e : Event) (y : Replied) (c : Call engine x e y) where
+  host-is : y .host ≡ hostOf (event (waker engine) (stateIn x) e .state)
+  host-is = ap (λ (z : Replied). z .host) (call-is engine x k e y c)
+
+  host-held : Held (y .host)
+  host-held = subst Held (sym host-is) (held-next x k engine e)
+
+  state-is : stateIn (y .host) ≡ event (waker engine) (stateIn x) e .state
+  state-is = ap stateIn host-is ∙ state-back (came (k .reached) engine e)
+
+-- ---- calls in a row
+
+-- what they leave and return is what the engine's run gives, step by step
+calls-run : (engine : Engine) (x : Host) → Held x → (es : List Event) (ys : List Replied) → Called engine x es ys → ys ≡ repliesOf es (run engine (stateIn x) es .results)
+unfolding run repliesOf
+calls-run engine x k es ys over = refl
+calls-run engine x k es ys (next {e = e} {es = rest} {y = y} {ys = more} c cs) =
+    ap₂ _∷_ (call-is engine x k e y c)
+    (rw (state-is engine x k e y c) at (calls-run engine (y .host) (host-held engine x k e y c) rest more cs))
+
+calls-last : (engine : Engine) (x : Host) → Held x → (es : List Event) (ys : List Replied) → Called engine x es ys → lastHost x ys ≡ hostOf (run engine (stateIn x) es .last)
+unfolding run lastHost
+calls-last engine x k es ys over = k .holds
+calls-last engine x k es ys (next {e = e} {es = rest} {y = y} {ys = more} c cs) =
+    rw (state-is engine x k e y c) at (calls-last engine (y .host) (host-held engine x k e y c) rest more cs)
+
+-- ---- both engines
+
+-- results that are alike, and leave the same state, are alike to those who call
+replies-alike : (e : Event) (a b : Result) → Agrees a b → CallsAlike (repliedOf e a) (repliedOf e b)
+replies-alike e a b g = go (isQuery e)
+  where
+    go : (q : Bool) → CallsAlike (record { host = hostOf (a .state); wakings = listOf (a .wakings); reply = cond q (reply.Seen (queriedOf a)) (reply.Told (toldOf a)) })
+        (record { host = hostOf (b .state); wakings = listOf (b .wakings); reply = cond q (reply.Seen (queriedOf b)) (reply.Told (toldOf b)) })
+    go true =
+        record {
+          host = ap hostOf (g .state);
+          wakings = ap listOf (g .alike .wakings);
+          reply = ap (λ (w : Answer). reply.Seen (showing w 0)) (g .alike .answer);
+          fewer = g .alike .fewer;
+          bounded = g .alike .bounded;
+        }
+    go false =
+        record {
+          host = ap hostOf (g .state);
+          wakings = ap listOf (g .alike .wakings);
+          reply = ap₂ (λ (w : Answer) (l : List Waking). reply.Told (telling (w .code) (w .value) 0 (length l))) (g .alike .answer) (g .alike .wakings);
+          fewer = g .alike .fewer;
+          bounded = g .alike .bounded;
+        }
+
+calls-alike : (x : Host) → Held x → (es : List Event) (ys zs : List Replied) → Called Quick x es ys → Called Plain x es zs → Pairwise CallsAlike ys zs
+calls-alike x k es ys zs over over = end
+calls-alike x k es ys zs (next {e = e} {es = rest} {y = y} {ys = more} c cs) (next {y = z} {ys = less} d ds) =
+    let g : Agrees (event (waker Quick) (stateIn x) e) (event (waker Plain) (stateIn x) e) = event-agrees (stateIn x) e (reached (k .reached)) in
+    let h : y .host ≡ z .host = host-is Quick x k e y c ∙ ap hostOf (g .state) ∙ sym (host-is Plain x k e z d) in
+    let a : CallsAlike y z = rw (call-is Quick x k e y c, call-is Plain x k e z d) (replies-alike e _ _ g) in
+    lists.next a (calls-alike (y .host) (host-held Quick x k e y c) rest more less cs (subst (λ (w : Host). Called Plain w rest less) (sym h) ds))
+
+-- Demand 3, over calls of the code.
+pub calls-agree : (events : List Event) (quick plain : List Replied) → Called Quick (hostOf freshState) events quick → Called Plain (hostOf freshState) events plain
+    → CallsAgree events quick plain
+calls-agree events quick plain cs ds =
+    let e : stateIn (hostOf freshState) ≡ freshState = state-back start in
+    let a = engines-agree events in
+    let q : lastHost (hostOf freshState) quick ≡ hostOf (run Plain freshState events .last) = (rw e at (calls-last Quick _ held-fresh events quick cs)) ∙ ap hostOf (a .last) in
+    let p : lastHost (hostOf freshState) plain ≡ hostOf (run Plain freshState events .last) = rw e at (calls-last Plain _ held-fresh events plain ds) in
+    record {
+      quickly = rw e at (calls-run Quick _ held-fresh events quick cs);
+      plainly = rw e at (calls-run Plain _ held-fresh events plain ds);
+      alike = calls-alike _ held-fresh events quick plain cs ds;
+      last = q ∙ sym p;
+      ends = q;
+      stuck = rw (a .last) at (a .stuck);
+    }
