@@ -4,4 +4,5 @@ pub mod Starts
 pub mod Replies
 pub mod Going
 pub mod Whole
+pub mod Texts
 pub mod Examples

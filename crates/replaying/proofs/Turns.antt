@@ -11,7 +11,7 @@ use Rattle.host.specs.Holding.{Host, hostOf, stateIn, Held}
 use Rattle.host.proofs.HeldLaws.{state-back, held-fresh, held-next}
 use Rattle.runfile.specs.Table.{fileMax, tableEnd, countIn}
 use Rattle.runfile.specs.Body.{eventAt, nextAt, eventsFrom}
-use Rattle.runfile.specs.File.{codeOfFile}
+use Rattle.runfile.specs.File.{fileOf, codeOfFile}
 use Rattle.runfile.proofs.Walk.{Bodies, within, is-good, good-events, good-bodies, bad-code, events-turn, bodies-turn}
 use Rattle.lines.specs.Text.{textOf}
 use Rattle.replaying.specs.Replay.{Stage, eventsIn, startOf, nextLine, onward, Came, started, went}
@@ -46,6 +46,15 @@ module _ (file : List ℕ) where
   pub start-good : codeOfFile file ≡ 0 → startOf file ≡ stage (hostOf freshState) 0 (countIn file) (tableEnd (countIn file))
   unfolding startOf eventsIn
   start-good h = rw (good-events file h, length-events file (tableEnd (countIn file)) (countIn file))
+
+  -- the bodies that are left hold the file's events
+  pub start-events : (code : ℕ) → codeOfFile file ≡ code → eventsFrom file (startOf file .at) (startOf file .left) ≡ eventsIn (fileOf file)
+  unfolding startOf eventsIn eventsFrom
+  start-events zero h = rw (good-events file h, length-events file (tableEnd (countIn file)) (countIn file))
+  start-events (suc n) h = rw (bad-code file (λ z. no n (sym h ∙ z)))
+    where
+      no : (m : ℕ) → suc m ≡ 0 → ⊥
+      no m z = omega arith
 
   start-ready : (code : ℕ) → codeOfFile file ≡ code → Ready file (startOf file)
   start-ready zero h =

@@ -11,15 +11,12 @@ use Rattle.model.specs.declared.Engine.{Engine}
 use Rattle.model.specs.State.{freshState}
 use Rattle.model.specs.Runs.{start, run}
 use Rattle.host.proofs.HeldLaws.{state-back}
-use Rattle.runfile.specs.Table.{tableEnd, countIn}
-use Rattle.runfile.specs.Body.{eventsFrom}
 use Rattle.runfile.specs.File.{fileOf, codeOfFile}
-use Rattle.runfile.proofs.Walk.{good-events, bad-code}
 use Rattle.lines.specs.Text.{textOf}
 use Rattle.lines.specs.Buffer.{lineBytes, written, hasRoom, putLine}
 use Rattle.lines.proofs.Writing.{roomy, length-grows, line-text}
 use Rattle.replaying.specs.Replay.{Stage, Wrote, firstLine, eventsIn, textOfFile, replayed, startOf, nextLine, onward, ahead, finished, Came, started, went, wrote, begun, pieceFrom, pieceOf, textsFrom, together}
-use Rattle.replaying.proofs.Turns.{length-events, rest, rest-turn, rest-over}
+use Rattle.replaying.proofs.Turns.{start-events, rest, rest-turn, rest-over}
 use Rattle.replaying.proofs.Going.{piece-turn}
 
 module _ (engine : Engine) (file : List ℕ) where
@@ -28,7 +25,7 @@ module _ (engine : Engine) (file : List ℕ) where
   ahead-ahead s m zero = let e : m + 0 ≡ m = omega arith in rw e
   ahead-ahead s m (suc n) = let e : m + suc n ≡ suc (m + n) = omega arith in rw e (ap (onward engine file) (ahead-ahead s m n))
 
-  ahead-onward : (s : Stage) (n : ℕ) → ahead engine file (onward engine file s) n ≡ ahead engine file s (suc n)
+  pub ahead-onward : (s : Stage) (n : ℕ) → ahead engine file (onward engine file s) n ≡ ahead engine file s (suc n)
   unfolding ahead
   ahead-onward s zero = refl
   ahead-onward s (suc n) = ap (onward engine file) (ahead-onward s n)
@@ -110,13 +107,9 @@ module _ (engine : Engine) (file : List ℕ) where
           rw (more (omega arith) (v .came) (omega (arith, v .size))) (v .text)
       by false e more = sym (rest-over engine file s (omega (arith, ltb-false 0 (s .left) e)))
 
-  start-rest : (code : ℕ) → codeOfFile file ≡ code → rest engine file (startOf file) ≡ textOf 0 (eventsIn (fileOf file)) (run engine freshState (eventsIn (fileOf file)) .results)
-  unfolding rest startOf eventsIn eventsFrom
-  start-rest zero h = rw (good-events file h, length-events file (tableEnd (countIn file)) (countIn file), state-back start)
-  start-rest (suc n) h = rw (bad-code file (λ z. no n (sym h ∙ z)), state-back start)
-    where
-      no : (m : ℕ) → suc m ≡ 0 → ⊥
-      no m z = omega arith
+  start-rest : rest engine file (startOf file) ≡ textOf 0 (eventsIn (fileOf file)) (run engine freshState (eventsIn (fileOf file)) .results)
+  unfolding rest startOf
+  start-rest = rw (start-events file (codeOfFile file) refl, state-back start)
 
   -- The text of a start and of all pieces behind it, into a buffer with room for a line, is the whole text of the file.
   pub whole : (out : List ℕ) → lineBytes ≤ length out → together engine file out ≡ replayed engine file
@@ -124,7 +117,7 @@ module _ (engine : Engine) (file : List ℕ) where
   whole out l =
       let line = firstLine (fileOf file) in
       let r : hasRoom out 0 ≡ true = le-leb lineBytes (length out) l in
-      rw (r, line-text out line 0 (omega arith), texts-make-rest (startOf file .left) (written out 0 line) (omega arith) started (omega (arith, length-grows out 0 line (omega arith))), start-rest (codeOfFile file) refl)
+      rw (r, line-text out line 0 (omega arith), texts-make-rest (startOf file .left) (written out 0 line) (omega arith) started (omega (arith, length-grows out 0 line (omega arith))), start-rest)
 
   -- ---- how far they lead
 

@@ -1,0 +1,36 @@
+-- What is claimed of whole texts: of both engines' for one file, of a refused file's, and of the host behind the last line.
+use Prim.Native.Nat.{ℕ, _≤_}
+use mathlib.Core.Path.{_≡_}
+use mathlib.Core.List.{List, [], _++_}
+use lib.IntN.{ℤ}
+use lib.ListN.{length}
+use Rattle.model.specs.declared.Engine.{Engine}
+use Rattle.model.specs.declared.Waking.{Waking}
+use Rattle.model.specs.State.{freshState}
+use Rattle.model.specs.Runs.{run}
+use Rattle.host.specs.Holding.{hostOf}
+use Rattle.runfile.specs.File.{fileOf}
+use Rattle.lines.specs.Text.{badLine, eventText}
+use Rattle.replaying.specs.Replay.{eventsIn, replayed, Stage, finished}
+
+-- a line of the quick and of the plain engine: the same, or an event's that differ in the looks alone
+pub data LinesAlike : List ℕ → List ℕ → Type 0 where
+  same : (line : List ℕ) → LinesAlike line line
+  looks : (position : ℕ) (code : ℤ) (value quick plain : ℕ) (wakings : List Waking) → quick ≤ plain → plain ≤ 36
+      → LinesAlike (eventText position code value quick wakings) (eventText position code value plain wakings)
+
+-- two texts, line by line
+pub data TextsAlike : List ℕ → List ℕ → Type 0 where
+  over : TextsAlike [] []
+  line : {a b x y : List ℕ} → LinesAlike a b → TextsAlike x y → TextsAlike (a ++ x) (b ++ y)
+
+-- behind the last line: the host is that of the run of the file's events, and none of them is left
+pub record RanAll (engine : Engine) (file : List ℕ) (s : Stage) : Type 0 where
+  pub host : s .host ≡ hostOf (run engine freshState (eventsIn (fileOf file)) .last)
+  pub position : s .position ≡ length (eventsIn (fileOf file))
+  pub left : s .left ≡ 0
+
+-- a file that is refused with a code: one line, and a host to which nothing has happened
+pub record RanNothing (engine : Engine) (file : List ℕ) (code : ℕ) : Type 0 where
+  pub text : replayed engine file ≡ badLine code
+  pub host : finished engine file .host ≡ hostOf freshState
