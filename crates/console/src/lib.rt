@@ -1,7 +1,7 @@
 // Replays a run file onto standard output.
 ghost use mathlib.Core.Path.{_≡_};
 ghost use Rattle.host.specs.Holding.{hostIn};
-ghost use Rattle.replaying.specs.Replay.{stageIn, finished};
+ghost use Rattle.replaying.specs.Replay.{stageIn, lastStage};
 use host::HOST_BYTES;
 use host::fresh;
 use host::no_adjustments;
@@ -19,7 +19,7 @@ pub fn print(
     engine: Engine,
     file: &[u8],
 ) -> Progress
-    ensures { λ r. ⌜ stageIn (hostIn (now (host .exit)) (now (adjustments .exit))) r ≡ finished engine (now (file .entry)) ⌝ }
+    ensures { λ r. ⌜ stageIn (hostIn (now (host .exit)) (now (adjustments .exit))) r ≡ lastStage engine (now (file .entry)) ⌝ }
 {
     *host = fresh();
     *adjustments = no_adjustments();

@@ -14,7 +14,7 @@ abbrev pub Same : ℕ → ℕ → List ℕ → List ℕ → Type 0
 Same a b h h′ = (j : ℕ) → a ≤ j → j < b → getD h′ j 0 ≡ getD h j 0
 
 -- only the bytes from a to b differ
-pub record Wrote (a b : ℕ) (h h′ : List ℕ) : Type 0 where
+pub record StoredAt (a b : ℕ) (h h′ : List ℕ) : Type 0 where
   pub long : length h′ ≡ length h
   pub below : (j : ℕ) → j < a → getD h′ j 0 ≡ getD h j 0
   pub above : (j : ℕ) → b ≤ j → getD h′ j 0 ≡ getD h j 0
@@ -51,7 +51,7 @@ sets-above : (vs l : List ℕ) (i j : ℕ) → i + length vs ≤ j → getD (set
 sets-above [] l i j h = refl
 sets-above (v ∷ vs) l i j h = sets-above vs (set l i v) (suc i) j (omega arith) ∙ getD-set-other l i j v 0 (λ (e : j ≡ i). omega arith)
 
-pub stored : (w : ℕ) (h : List ℕ) (k x : ℕ) → Wrote k (k + w) h (sets h k (bytesOf w x))
+pub stored : (w : ℕ) (h : List ℕ) (k x : ℕ) → StoredAt k (k + w) h (sets h k (bytesOf w x))
 stored w h k x =
     record {
       long = length-sets h k (bytesOf w x);
@@ -99,7 +99,7 @@ module _ (w : ℕ) where
       ap₂ (λ (x : ℕ) (y : List ℕ). x ∷ y) (number-same w h h′ at (λ j a b. s j a (omega (arith, mul-suc w n))))
       (numbers-same n (at + w) h h′ (λ j a b. s j (omega arith) (omega (arith, mul-suc w n))))
 
-  pub numbers-set : (n at i : ℕ) (h h′ : List ℕ) (x : ℕ) → i < n → Wrote (at + w * i) (at + w * i + w) h h′ → numberAt w h′ (at + w * i) ≡ x
+  pub numbers-set : (n at i : ℕ) (h h′ : List ℕ) (x : ℕ) → i < n → StoredAt (at + w * i) (at + w * i + w) h h′ → numberAt w h′ (at + w * i) ≡ x
       → numbersFrom w at n h′ ≡ set (numbersFrom w at n h) i x
   unfolding numbersFrom
   numbers-set zero at i h h′ x l v e = absurd (not-suc-le-zero l)
@@ -112,7 +112,7 @@ module _ (w : ℕ) where
       (numbers-set n (at + w) i h h′ x (le-of-suc-le-suc l) (rw z at v) (rw z at e))
 
   -- a write that lies behind them, or before them, leaves them
-  module _ {a b : ℕ} {h h′ : List ℕ} (v : Wrote a b h h′) (n at : ℕ) where
+  module _ {a b : ℕ} {h h′ : List ℕ} (v : StoredAt a b h h′) (n at : ℕ) where
     pub under : at + w * n ≤ a → numbersFrom w at n h′ ≡ numbersFrom w at n h
     under l = numbers-same n at h h′ (λ j p q. v .below j (omega arith))
 

@@ -11,7 +11,7 @@ use lib.Dec.{eqb, ltb}
 use lib.ListN.{length, getD, set, List·getD-eq-default, List·getD-map}
 use lib.Seq.{sets, set-out}
 use Rattle.host.specs.Parts.{Part, arrays, ofSets, ofTable, ofQueue, parts, part, listed, number, Shape, shapes, placeFrom, place, behind, hostBytes, numberAt, bytesOf, Row, rowIn, with, put}
-use Rattle.host.proofs.Numbers.{Wrote, stored, number-stored, length-numbers, numbers-at, numbers-beyond, numbers-set, under, over}
+use Rattle.host.proofs.Numbers.{StoredAt, stored, number-stored, length-numbers, numbers-at, numbers-beyond, numbers-set, under, over}
 
 -- a function is known by its values
 pub by-values : {A B : Type 0} {f g : A → B} → ((x : A) → f x ≡ g x) → f ≡ g
@@ -128,7 +128,7 @@ write-part p i x h long l m = by-values (λ q. each q (eqb (number p) (number q)
     h′ : List ℕ
     h′ = sets h (spot p i) (bytesOf (width p) x)
 
-    w : Wrote (spot p i) (spot p i + width p) h h′
+    w : StoredAt (spot p i) (spot p i + width p) h h′
     w = stored (width p) h (spot p i) x
 
     within : spot p i + width p ≤ behind (place p)

@@ -151,7 +151,7 @@ module _ {sets : List Set} (counts : All (λ (k : Set). k .count ≤ semaphores)
 
   -- ---- the rules
 
-  pub record Agrees (a b : Ended) : Type 0 where
+  pub record WakersAgree (a b : Ended) : Type 0 where
     pub world : a .world ≡ b .world
     pub looks : a .looks ≤ b .looks
     pub rests : All (Rests slot (a .world .table)) (a .world .queue)
@@ -161,14 +161,14 @@ module _ {sets : List Set} (counts : All (λ (k : Set). k .count ≤ semaphores)
   nobody-rests t (s ∷ q) h = absurd (not-suc-le-zero h)
 
   pub rules-agree : (n m : ℕ) (w : World) (l l′ : ℕ) → length (w .queue) ≤ n → l ≤ l′ → Calm sets w → All (Watched slot (w .table) m) (w .queue)
-      → Agrees (quick n slot m w l) (plain n slot w l′)
+      → WakersAgree (quick n slot m w l) (plain n slot w l′)
   unfolding quick plain
   rules-agree zero m w l l′ hn le c h = record { world = refl; looks = le; rests = nobody-rests (w .table) (w .queue) hn }
   rules-agree (suc n) m w l l′ hn le c h = go _ _ (rounds-same (w .table) (w .queue) 0 l l′ m 0 le (c .fits) (c .distinct) h) (rules-agree n)
     where
       go : (x y : Round) → Same (w .table) 0 (w .queue) x y
-          → ((m : ℕ) (w : World) (l l′ : ℕ) → length (w .queue) ≤ n → l ≤ l′ → Calm sets w → All (Watched slot (w .table) m) (w .queue) → Agrees (quick n slot m w l) (plain n slot w l′))
-          → Agrees (afterRound w (λ i l′ m′. quick n slot (remark slot w (finish w i) m′) (finish w i) l′) x) (afterRound w (λ i l′ m′. plain n slot (finish w i) l′) y)
+          → ((m : ℕ) (w : World) (l l′ : ℕ) → length (w .queue) ≤ n → l ≤ l′ → Calm sets w → All (Watched slot (w .table) m) (w .queue) → WakersAgree (quick n slot m w l) (plain n slot w l′))
+          → WakersAgree (afterRound w (λ i l′ m′. quick n slot (remark slot w (finish w i) m′) (finish w i) l′) x) (afterRound w (λ i l′ m′. plain n slot (finish w i) l′) y)
       go x y (idle le′ a) ih = record { world = refl; looks = le′; rests = a }
       go x y (picks {l = lq} {l′ = lp} {m = m′} j lt mi e le′ a) ih =
           let z : 0 + j ≡ j = omega arith in
@@ -183,10 +183,10 @@ module _ {sets : List Set} (counts : All (λ (k : Set). k .count ≤ semaphores)
       (λ w i k lt mi e. (finish-calm w i (k .0) lt, finish-aside w i (k .0) lt Meant mi (k .1))) (c, a) .1
 
   -- those whom no touched semaphore concerns could not finish
-  abbrev pub Ready : ℕ → World → Type 0
-  Ready touched w = All (λ (s : Sleeper). mine slot s ≡ true → hasBit (named s) touched ≡ false → couldFinish (w .table) s ≡ false) (w .queue)
+  abbrev pub OthersStuck : ℕ → World → Type 0
+  OthersStuck touched w = All (λ (s : Sleeper). mine slot s ≡ true → hasBit (named s) touched ≡ false → couldFinish (w .table) s ≡ false) (w .queue)
 
-  pub wakers-agree : (touched : ℕ) (w : World) (l l′ : ℕ) → l ≤ l′ → Calm sets w → Ready touched w → Agrees (waker Quick slot touched w l) (waker Plain slot touched w l′)
+  pub wakers-agree : (touched : ℕ) (w : World) (l l′ : ℕ) → l ≤ l′ → Calm sets w → OthersStuck touched w → WakersAgree (waker Quick slot touched w l) (waker Plain slot touched w l′)
   unfolding waker
   wakers-agree touched w l l′ le c r =
       rules-agree (length (w .queue)) (markTouched slot touched 0 (w .queue)) w l l′ (omega arith) le c

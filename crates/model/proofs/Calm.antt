@@ -23,7 +23,7 @@ use Rattle.model.proofs.JudgeLaws.{either}
 use Rattle.model.proofs.LookLaws.{look-fine, after-good}
 use Rattle.model.proofs.QueueLaws.{distinct-without}
 use Rattle.model.proofs.WakingLaws.{finish-length, finish-wakings}
-use Rattle.model.proofs.Rules.{sumTo, Looked, plain-looked, quick-looked, sumTo-mono, sumTo-add, sumTo-8, count-fewer, count-length, Kept, Tame, tame}
+use Rattle.model.proofs.Rules.{sumTo, Looked, plain-looked, quick-looked, sumTo-mono, sumTo-add, sumTo-8, count-fewer, count-length, KeptByFinish, Tame, tame}
 
 module _ {sets : List Set} where
   pub finish-calm : (w : World) (i : ℕ) → Calm sets w → i < length (w .queue) → Calm sets (finish w i)
@@ -38,7 +38,7 @@ module _ {sets : List Set} where
         room = omega (arith, c .room, finish-length w i h, finish-wakings w i);
       }
 
-  calm-kept : (slot : ℕ) → Kept slot (Calm sets)
+  calm-kept : (slot : ℕ) → KeptByFinish slot (Calm sets)
   calm-kept slot w i c h mi e = finish-calm w i c h
 
   -- a waking keeps it
@@ -48,18 +48,18 @@ module _ {sets : List Set} where
 -- ---- looks
 
 -- is the sleeper's set this one or a later one?
-abbrev pub from : ℕ → Sleeper → Bool
-from slot s = leb slot (s .slot)
+abbrev pub fromSlot : ℕ → Sleeper → Bool
+fromSlot slot s = leb slot (s .slot)
 
 -- the sleepers of a set, and those of the later ones
-shares : (slot : ℕ) (q : List Sleeper) → countOf (mine slot) q + countOf (from (slot + 1)) q ≡ countOf (from slot) q
+shares : (slot : ℕ) (q : List Sleeper) → countOf (mine slot) q + countOf (fromSlot (slot + 1)) q ≡ countOf (fromSlot slot) q
 unfolding countOf mine
 shares slot [] = refl
 shares slot (s ∷ q) = go (eqb (s .slot) slot) refl (leb (slot + 1) (s .slot)) refl (leb slot (s .slot)) refl (shares slot q)
   where
     go : (x : Bool) → eqb (s .slot) slot ≡ x → (y : Bool) → leb (slot + 1) (s .slot) ≡ y → (z : Bool) → leb slot (s .slot) ≡ z
-        → countOf (mine slot) q + countOf (from (slot + 1)) q ≡ countOf (from slot) q
-        → cond x 1 0 + countOf (mine slot) q + (cond y 1 0 + countOf (from (slot + 1)) q) ≡ cond z 1 0 + countOf (from slot) q
+        → countOf (mine slot) q + countOf (fromSlot (slot + 1)) q ≡ countOf (fromSlot slot) q
+        → cond x 1 0 + countOf (mine slot) q + (cond y 1 0 + countOf (fromSlot (slot + 1)) q) ≡ cond z 1 0 + countOf (fromSlot slot) q
     go true ex true ey z ez h = absurd (omega (arith, eqb-true (s .slot) slot ex, leb-true (slot + 1) (s .slot) ey))
     go true ex false ey true ez h = omega arith
     go true ex false ey false ez h = absurd (omega (arith, eqb-true (s .slot) slot ex, leb-false slot (s .slot) ez))
@@ -84,17 +84,17 @@ module _ (wake : Waker) (t : Tame wake) (sets : List Set) where
       (t .looked slot touched (e .world) (e .looks))
       (record { more = omega arith; most = omega arith })
 
-  pub treatFrom-looked : (slot : ℕ) (touches : List ℕ) (e : Ended) → Looked (e .looks) (countOf (from slot) (e .world .queue)) (treatFrom wake sets slot touches e .looks)
+  pub treatFrom-looked : (slot : ℕ) (touches : List ℕ) (e : Ended) → Looked (e .looks) (countOf (fromSlot slot) (e .world .queue)) (treatFrom wake sets slot touches e .looks)
   unfolding treatFrom
   treatFrom-looked slot [] e = record { more = omega arith; most = omega arith }
   treatFrom-looked slot (touched ∷ touches) e =
       let e′ : Ended = treat wake sets slot touched e in
       let q : List Sleeper = e .world .queue in
       let a : Looked (e .looks) (countOf (mine slot) q) (e′ .looks) = treat-looked slot touched e in
-      let b : Looked (e′ .looks) (countOf (from (slot + 1)) (e′ .world .queue)) (treatFrom wake sets (slot + 1) touches e′ .looks) = treatFrom-looked (slot + 1) touches e′ in
-      let k : sumTo (countOf (from (slot + 1)) (e′ .world .queue)) ≤ sumTo (countOf (from (slot + 1)) q) = sumTo-mono _ _ (fewer (from (slot + 1)) slot touched e) in
-      let s : sumTo (countOf (mine slot) q) + sumTo (countOf (from (slot + 1)) q) ≤ sumTo (countOf (from slot) q) =
-      rw (shares slot q) at (sumTo-add (countOf (mine slot) q) (countOf (from (slot + 1)) q)) in
+      let b : Looked (e′ .looks) (countOf (fromSlot (slot + 1)) (e′ .world .queue)) (treatFrom wake sets (slot + 1) touches e′ .looks) = treatFrom-looked (slot + 1) touches e′ in
+      let k : sumTo (countOf (fromSlot (slot + 1)) (e′ .world .queue)) ≤ sumTo (countOf (fromSlot (slot + 1)) q) = sumTo-mono _ _ (fewer (fromSlot (slot + 1)) slot touched e) in
+      let s : sumTo (countOf (mine slot) q) + sumTo (countOf (fromSlot (slot + 1)) q) ≤ sumTo (countOf (fromSlot slot) q) =
+      rw (shares slot q) at (sumTo-add (countOf (mine slot) q) (countOf (fromSlot (slot + 1)) q)) in
       record { more = omega arith; most = omega arith }
 
 -- eight sleepers are looked at 36 times at most

@@ -139,11 +139,11 @@ operate-passes s p i bytes e =
 
 -- ---- set value, query and remove
 
-pub record Numbered (s : State) (i : ℤ) (n : ℕ) : Type 0 where
+pub record InSet (s : State) (i : ℤ) (n : ℕ) : Type 0 where
   pub slot : slotOf i < slots
   pub number : n < countAt (s .sets) (slotOf i)
 
-pub number-passes : (s : State) (i : ℤ) (n : ℕ) → checkNumber s i n ≡ 0 → Numbered s i n
+pub number-passes : (s : State) (i : ℤ) (n : ℕ) → checkNumber s i n ≡ 0 → InSet s i n
 unfolding checkNumber
 number-passes s i n e =
     let a = passes _ 22 _ (zero-lt-suc _) e in
@@ -156,7 +156,7 @@ in-range (pos v) e = leb-true v valueMax e
 in-range (negsuc v) e = let z : _≡_ {A = ℕ} 0 1 = cc in absurd (omega arith)
 
 pub record Assignable (s : State) (i : ℤ) (n : ℕ) (v : ℤ) : Type 0 where
-  pub numbered : Numbered s i n
+  pub numbered : InSet s i n
   pub value : natAbs v ≤ valueMax
 
 pub setValue-passes : (s : State) (i : ℤ) (n : ℕ) (v : ℤ) → checkSetValue s i n v ≡ 0 → Assignable s i n v

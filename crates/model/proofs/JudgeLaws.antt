@@ -171,7 +171,7 @@ pub record SameSize (c c′ : Copies) : Type 0 where
   pub adjustments : length (c .adjustments) ≡ length (c′ .adjustments)
 
 -- two copies that an operation cannot tell apart
-pub record Alike (c c′ : Copies) (o : Operation) : Type 0 where
+pub record SameFor (c c′ : Copies) (o : Operation) : Type 0 where
   pub value : getD (c .values) (o .number) 0 ≡ getD (c′ .values) (o .number) 0
   pub adjustment : getD (c .adjustments) (o .number) (pos 0) ≡ getD (c′ .adjustments) (o .number) (pos 0)
 
@@ -179,7 +179,7 @@ pub record Alike (c c′ : Copies) (o : Operation) : Type 0 where
 record Twin (c c′ : Copies) (j j′ : Judged) : Type 0 where
   outcome : j .outcome ≡ j′ .outcome
   size : SameSize (j .copies) (j′ .copies)
-  alike : (o : Operation) → Alike c c′ o → Alike (j .copies) (j′ .copies) o
+  alike : (o : Operation) → SameFor c c′ o → SameFor (j .copies) (j′ .copies) o
 
 module _ (c c′ : Copies) (z : SameSize c c′) where
   still : (x : Outcome) (i : ℕ) → Twin c c′ (judged x i c) (judged x i c′)
@@ -209,7 +209,7 @@ module _ (c c′ : Copies) (z : SameSize c c′) where
         };
       }
 
-  step-twin : (o : Operation) (i : ℕ) → Alike c c′ o → Twin c c′ (step c o i) (step c′ o i)
+  step-twin : (o : Operation) (i : ℕ) → SameFor c c′ o → Twin c c′ (step c o i) (step c′ o i)
   unfolding step
   step-twin o i h = rw (h .value) (go (nextValue (getD (c′ .values) (o .number) 0) (o .amount)))
     where
@@ -238,7 +238,7 @@ goOn-agreed start start′ i Sleep more more′ a = record { outcome = refl; pos
 goOn-agreed start start′ i Again more more′ a = record { outcome = refl; position = refl }
 goOn-agreed start start′ i Range more more′ a = record { outcome = refl; position = refl }
 
-pub judge-local : (start start′ : Copies) (os : List Operation) (c c′ : Copies) (i : ℕ) → SameSize c c′ → All (Alike c c′) os
+pub judge-local : (start start′ : Copies) (os : List Operation) (c c′ : Copies) (i : ℕ) → SameSize c c′ → All (SameFor c c′) os
     → Agreed (judgeFrom start os c i) (judgeFrom start′ os c′ i)
 unfolding judgeFrom
 judge-local start start′ [] c c′ i z h = record { outcome = refl; position = refl }

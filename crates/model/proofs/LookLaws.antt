@@ -24,7 +24,7 @@ use Rattle.model.proofs.Lists.{all-map, all-zip, all-zip3, all-getD, al
 use Rattle.model.specs.Invariant.{Good, Fits, Other, countAt}
 use Rattle.model.proofs.Bits.{bit}
 use Rattle.model.proofs.MarkLaws.{untouched, differing-off}
-use Rattle.model.proofs.JudgeLaws.{either, Fine, judge-fine, Alike, Agreed, judge-local}
+use Rattle.model.proofs.JudgeLaws.{either, Fine, judge-fine, SameFor, Agreed, judge-local}
 
 -- ---- the copies
 
@@ -123,7 +123,7 @@ module _ {sets : List Set} (counts : All (λ (k : Set). k .count ≤ semaphores)
         b : Fine (copiesOf t′ s)
         b = copies-fine t′ s g′ f
 
-        alike : (o : Operation) → o .number < semaphores → SameValue t t′ s o → SameUndo t t′ s o → Alike (copiesOf t s) (copiesOf t′ s) o
+        alike : (o : Operation) → o .number < semaphores → SameValue t t′ s o → SameUndo t t′ s o → SameFor (copiesOf t s) (copiesOf t′ s) o
         alike o h v u =
             record {
               value = getD-values t (s .slot) (o .number) h ∙ v ∙ sym (getD-values t′ (s .slot) (o .number) h);

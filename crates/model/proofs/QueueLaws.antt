@@ -15,7 +15,7 @@ use Rattle.model.specs.Limits.{processes}
 use Rattle.model.specs.State.{Sleeper, State, noSleeper}
 use Rattle.model.specs.Waking.{without, waking}
 use Rattle.model.specs.Checks.{asleep}
-use Rattle.model.specs.Events.{keep, endedWith, isOf}
+use Rattle.model.specs.Events.{keep, endedWith, notOf}
 use Rattle.model.specs.Runs.{All, none, also}
 use Rattle.model.proofs.Lists.{first, rest, all-map, all-zip, all-at, all-append, all-without}
 use Rattle.model.specs.Invariant.{Fits, Other, Distinct, alone, apart, Invariant}
@@ -109,10 +109,6 @@ module _ (test : Sleeper → Bool) where
       go : (b : Bool) → length (keep test q) ≤ length q → length (cond b (s ∷ keep test q) (keep test q)) ≤ suc (length q)
       go true r = omega arith
       go false r = omega arith
-
--- all sleepers but those of a process
-abbrev pub notOf : ℕ → Sleeper → Bool
-notOf p s = not (isOf p s)
 
 -- ---- at most n sleepers, if their processes are 1 to n
 

@@ -162,14 +162,14 @@ module _ (slot : ℕ) where
       (after-alike w _ _ (scan (w .table) _ _ (w .queue) 0 l m) (λ i l m. quick-rule n (remark slot w (finish w i) m) (finish w i) l))
 
   -- what finishing a sleeper of the set who could finish keeps
-  abbrev pub Kept : (World → Type 0) → Type 0
-  Kept K =
+  abbrev pub KeptByFinish : (World → Type 0) → Type 0
+  KeptByFinish K =
       (w : World) (i : ℕ) → K w → i < length (w .queue) → mine slot (getD (w .queue) i noSleeper) ≡ true → couldFinish (w .table) (getD (w .queue) i noSleeper) ≡ true
       → K (finish w i)
 
   module _ (sees : ℕ → Sleeper → Bool) (off : ℕ → Sleeper → ℕ) (marks : World → World → ℕ → ℕ) (own : (m : ℕ) (s : Sleeper) → sees m s ≡ true → mine slot s ≡ true) where
     -- .. the whole rule keeps
-    pub rule-keeps : (K : World → Type 0) → Kept K → (n m : ℕ) (w : World) (l : ℕ) → K w → K (rule sees off marks n m w l .world)
+    pub rule-keeps : (K : World → Type 0) → KeptByFinish K → (n m : ℕ) (w : World) (l : ℕ) → K w → K (rule sees off marks n m w l .world)
     unfolding rule
     rule-keeps K kept zero m w l k = k
     rule-keeps K kept (suc n) m w l k = go _ (scan-fair (w .table) slot sees off own (w .queue) 0 l m) (rule-keeps K kept n)
@@ -199,10 +199,10 @@ module _ (slot : ℕ) where
             rw z (record { more = omega arith; most = omega arith })
 
 module _ (slot n m : ℕ) (w : World) (l : ℕ) where
-  pub plain-keeps : (K : World → Type 0) → Kept slot K → K w → K (plain n slot w l .world)
+  pub plain-keeps : (K : World → Type 0) → KeptByFinish slot K → K w → K (plain n slot w l .world)
   plain-keeps K kept k = rw (plain-rule slot n w l) (rule-keeps slot _ _ _ (λ m s e. e) K kept n 0 w l k)
 
-  pub quick-keeps : (K : World → Type 0) → Kept slot K → K w → K (quick n slot m w l .world)
+  pub quick-keeps : (K : World → Type 0) → KeptByFinish slot K → K w → K (quick n slot m w l .world)
   quick-keeps K kept k = rw (quick-rule slot n m w l) (rule-keeps slot _ _ _ (seen-own slot) K kept n m w l k)
 
   pub plain-looked : Looked l (countOf (mine slot) (w .queue)) (plain n slot w l .looks)
@@ -213,7 +213,7 @@ module _ (slot n m : ℕ) (w : World) (l : ℕ) where
 
 -- both wakers
 pub record Tame (wake : Waker) : Type 1 where
-  pub keeps : (slot touched : ℕ) (w : World) (l : ℕ) (K : World → Type 0) → Kept slot K → K w → K (wake slot touched w l .world)
+  pub keeps : (slot touched : ℕ) (w : World) (l : ℕ) (K : World → Type 0) → KeptByFinish slot K → K w → K (wake slot touched w l .world)
   pub looked : (slot touched : ℕ) (w : World) (l : ℕ) → Looked l (countOf (mine slot) (w .queue)) (wake slot touched w l .looks)
 
 pub tame : (engine : Engine) → Tame (waker engine)

@@ -23,21 +23,20 @@ use Rattle.model.specs.Look.{look, applied, valuesOf}
 use Rattle.model.specs.Marks.{mine, named, differing}
 use Rattle.model.specs.Waking.{World, Ended, couldFinish, waker}
 use Rattle.model.specs.Checks.{live, slotOf, checkOperate, checkSetValue, checkProcess}
-use Rattle.model.specs.Events.{wokenAs, world, operated, call, doOperate, assigned, doSetValue, exited, keep, treat, treatFrom, touchedFrom, doExit}
+use Rattle.model.specs.Events.{wokenAs, world, operated, call, doOperate, assigned, doSetValue, exited, keep, treat, treatFrom, touchedFrom, doExit, notOf}
 use Rattle.model.specs.Runs.{All, none, also}
 use Rattle.model.proofs.Lists.{all-map, all-zip, all-zip3, all-append}
 use Rattle.model.specs.Invariant.{Good, Clean, Fits, Other, Invariant, countAt}
 use Rattle.model.proofs.JudgeLaws.{Fine}
 use Rattle.model.proofs.LookLaws.{count-fits, numbers-fit, look-fine, applied-good, applied-undo, applied-value, still-stuck, unconcerned-stuck}
-use Rattle.model.proofs.QueueLaws.{few, distinct-snoc, keep-test, notOf}
+use Rattle.model.proofs.QueueLaws.{few, distinct-snoc, keep-test}
 use Rattle.model.proofs.TableLaws.{assigned-good, assigned-stuck, unnamed-other, exited-good, exited-stuck}
 use Rattle.model.proofs.CleanLaws.{looked-clean, assigned-clean, exited-clean, wake-clean}
 use Rattle.model.proofs.CheckLaws.{alive, Operable, operate-passes, Assignable, setValue-passes, process-passes}
 use Rattle.model.proofs.Rules.{tame}
 use Rattle.model.specs.Invariant.{Calm}
-use Rattle.model.proofs.Calm.{wake-calm, treatFrom-looked, looks-36, from}
-use Rattle.model.proofs.Agree as rules
-use Rattle.model.proofs.Agree.{slot-mine, slot-other, Rests, Aside, Ready, wake-aside, wakers-agree}
+use Rattle.model.proofs.Calm.{wake-calm, treatFrom-looked, looks-36, fromSlot}
+use Rattle.model.proofs.Agree.{slot-mine, slot-other, Rests, Aside, WakersAgree, OthersStuck, wake-aside, wakers-agree}
 use Rattle.model.proofs.EventLaws.{Agrees, quiet, checked-agrees, woken-agrees, keep-kept}
 
 -- ---- one set is treated
@@ -54,7 +53,7 @@ together slot Meant t q r a m = go (mine slot q) refl
     go false e = a e (m (slot-other slot q e))
 
 -- the table has become t: the sleepers of other sets are still stuck, and so are those of the set who name no touched semaphore
-treated : (s : State) (slot touched : ℕ) (t : Table) (i : Invariant s) → Good t → Clean (s .sets) t → All (Aside slot Anyone t) (s .queue) → Ready (i .counts) slot touched (world t (s .queue))
+treated : (s : State) (slot touched : ℕ) (t : Table) (i : Invariant s) → Good t → Clean (s .sets) t → All (Aside slot Anyone t) (s .queue) → OthersStuck (i .counts) slot touched (world t (s .queue))
     → Agrees (wokenAs s (waker Quick slot touched (world t (s .queue)) 0)) (wokenAs s (waker Plain slot touched (world t (s .queue)) 0))
 treated s slot touched t i g clean aside ready =
     woken-agrees s (waker Quick slot touched w 0) (waker Plain slot touched w 0) i (ag .world) (ag .looks)
@@ -68,7 +67,7 @@ treated s slot touched t i g clean aside ready =
     calm : Calm (s .sets) w
     calm = record { good = g; fits = i .fits; distinct = i .distinct; room = omega (arith, few s i) }
 
-    ag : rules.Agrees (i .counts) slot (waker Quick slot touched w 0) (waker Plain slot touched w 0)
+    ag : WakersAgree (i .counts) slot (waker Quick slot touched w 0) (waker Plain slot touched w 0)
     ag = wakers-agree (i .counts) slot touched w 0 0 (omega arith) calm ready
 
 -- ---- operate
@@ -178,13 +177,13 @@ module _ (s : State) (i : Invariant s) where
   unfolding treat
   treat-upto slot touched touches a b u = go (live (s .sets) slot) refl
     where
-      ready : Ready (i .counts) slot touched (a .world)
+      ready : OthersStuck (i .counts) slot touched (a .world)
       ready = all-map (λ q d e un. d (let h : q .slot ≡ slot = slot-mine slot q e in let z : q .slot - slot ≡ 0 = omega arith in inr (rw z un))) (u .done)
 
-      ag : rules.Agrees (i .counts) slot (waker Quick slot touched (a .world) (a .looks)) (waker Plain slot touched (a .world) (b .looks))
+      ag : WakersAgree (i .counts) slot (waker Quick slot touched (a .world) (a .looks)) (waker Plain slot touched (a .world) (b .looks))
       ag = wakers-agree (i .counts) slot touched (a .world) (a .looks) (b .looks) (u .looks) (u .calm) ready
 
-      moved : rules.Agrees (i .counts) slot (waker Quick slot touched (a .world) (a .looks)) (waker Plain slot touched (b .world) (b .looks))
+      moved : WakersAgree (i .counts) slot (waker Quick slot touched (a .world) (a .looks)) (waker Plain slot touched (b .world) (b .looks))
       moved =
           let e : waker Plain slot touched (a .world) (b .looks) ≡ waker Plain slot touched (b .world) (b .looks) = ap (λ (w : World). waker Plain slot touched w (b .looks)) (u .world) in
           rw e at ag
@@ -275,5 +274,5 @@ exit-agrees s p i = checked-agrees (checkProcess p) s _ _ i (λ e. does (process
         let u : Upto s i (0 + length touches) [] (treatFrom (waker Quick) (s .sets) 0 touches start) (treatFrom (waker Plain) (s .sets) 0 touches start) =
         treatFrom-upto s i 0 touches start start (upto r) in
         woken-agrees s _ _ i (u .world) (u .looks)
-        (omega (arith, treatFrom-looked (waker Plain) (tame Plain) (s .sets) 0 touches start .most, looks-36 (from 0) (left .queue) (few left k)))
+        (omega (arith, treatFrom-looked (waker Plain) (tame Plain) (s .sets) 0 touches start .most, looks-36 (fromSlot 0) (left .queue) (few left k)))
         (u .calm) (u .clean) (all-zip (λ q f d. d (inl (omega (arith, f .slot, length-touched slots 0 (s .table) t)))) (u .calm .fits) (u .done))

@@ -142,6 +142,13 @@ endedWith code test (s ∷ q) = cond (test s) (waking (s .process) code ∷ ende
 abbrev pub isOf : ℕ → Sleeper → Bool
 isOf p s = eqb (s .process) p
 
+-- those of other processes, and those that sleep at other sets
+abbrev pub notOf : ℕ → Sleeper → Bool
+notOf p s = not (isOf p s)
+
+abbrev pub notMine : ℕ → Sleeper → Bool
+notMine slot s = not (mine slot s)
+
 -- ---- waking
 
 -- what the host is after a waking, and what the event returns
@@ -211,7 +218,7 @@ doRemove s i =
     (record {
       sets = set (s .sets) slot (freeSet ((getD (s .sets) slot noSet .generation + 1) % 65536));
       table = cleared (s .table) slot;
-      queue = keep (λ c. not (mine slot c)) (s .queue);
+      queue = keep (notMine slot) (s .queue);
     })
     (endedWith (pos 43) (mine slot) (s .queue)))
 
@@ -220,7 +227,7 @@ unfoldable pub doSignal : State → ℕ → Result
 doSignal s p =
     checked (checkProcess p) s
     (doneWith
-    (record { sets = s .sets; table = s .table; queue = keep (λ c. not (isOf p c)) (s .queue) })
+    (record { sets = s .sets; table = s .table; queue = keep (notOf p) (s .queue) })
     (endedWith (pos 4) (isOf p) (s .queue)))
 
 -- a set is treated if it is live
@@ -242,7 +249,7 @@ unfoldable pub doExit : Waker → State → ℕ → Result
 doExit wake s p =
     let t = exited (s .table) p in
     checked (checkProcess p) s
-    (wokenAs s (treatFrom wake (s .sets) 0 (touchedFrom slots 0 (s .table) t) (record { world = world t (keep (λ c. not (isOf p c)) (s .queue)); looks = 0 })))
+    (wokenAs s (treatFrom wake (s .sets) 0 (touchedFrom slots 0 (s .table) t) (record { world = world t (keep (notOf p) (s .queue)); looks = 0 })))
 
 -- "Query's answer is value, last process, and the two wait counts with their masks."
 unfoldable pub seenAt : State → ℕ → ℕ → Seen

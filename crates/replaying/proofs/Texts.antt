@@ -15,8 +15,8 @@ use Rattle.host.proofs.HeldLaws.{state-back, held-fresh, held-next}
 use Rattle.runfile.specs.Body.{eventAt, eventsFrom}
 use Rattle.runfile.specs.File.{bad, fileOf, codeOfFile}
 use Rattle.lines.specs.Text.{queryLine, eventLine, lineOf, textOf}
-use Rattle.replaying.specs.Replay.{Stage, firstLine, eventsIn, textOfFile, replayed, startOf, onward, ahead, finished}
-use Rattle.replaying.specs.Texts.{LinesAlike, same, looks, TextsAlike, over, line, RanAll, RanNothing}
+use Rattle.replaying.specs.Replay.{Stage, firstLine, eventsIn, textOfFile, replayed, startOf, onward, ahead, lastStage}
+use Rattle.replaying.specs.Texts.{LinesAlike, sameLine, otherLooks, TextsAlike, noLine, andLine, RanAll, RanNothing}
 use Rattle.replaying.proofs.Turns.{start-events}
 use Rattle.replaying.proofs.Whole.{ahead-onward}
 
@@ -27,18 +27,18 @@ unfolding lineOf
 line-alike position e q p a = go (isQuery e)
   where
     go : (b : Bool) → LinesAlike (cond b (queryLine position (q .answer)) (eventLine position q)) (cond b (queryLine position (p .answer)) (eventLine position p))
-    go true = rw (a .answer) (same (queryLine position (p .answer)))
-    go false = rw (a .answer, a .wakings) (looks position (p .answer .code) (p .answer .value) (q .looks) (p .looks) (p .wakings) (a .fewer) (a .bounded))
+    go true = rw (a .answer) (sameLine (queryLine position (p .answer)))
+    go false = rw (a .answer, a .wakings) (otherLooks position (p .answer .code) (p .answer .value) (q .looks) (p .looks) (p .wakings) (a .fewer) (a .bounded))
 
 lines-alike : (position : ℕ) (es : List Event) (qs ps : List Result) → Pairwise Alike qs ps → TextsAlike (textOf position es qs) (textOf position es ps)
 unfolding textOf
-lines-alike position [] qs ps a = over
-lines-alike position (e ∷ es) qs ps end = over
-lines-alike position (e ∷ es) qs ps (next {x = q} {y = p} {xs = qs′} {ys = ps′} a more) = line (line-alike position e q p a) (lines-alike (position + 1) es qs′ ps′ more)
+lines-alike position [] qs ps a = noLine
+lines-alike position (e ∷ es) qs ps end = noLine
+lines-alike position (e ∷ es) qs ps (next {x = q} {y = p} {xs = qs′} {ys = ps′} a more) = andLine (line-alike position e q p a) (lines-alike (position + 1) es qs′ ps′ more)
 
 pub texts-alike : (file : List ℕ) → TextsAlike (replayed Quick file) (replayed Plain file)
 unfolding textOfFile
-texts-alike file = line (same (firstLine (fileOf file))) (lines-alike 0 (eventsIn (fileOf file)) _ _ (engines-agree (eventsIn (fileOf file)) .alike))
+texts-alike file = andLine (sameLine (firstLine (fileOf file))) (lines-alike 0 (eventsIn (fileOf file)) _ _ (engines-agree (eventsIn (fileOf file)) .alike))
 
 -- ---- behind the last line
 
@@ -62,7 +62,7 @@ module _ (engine : Engine) (file : List ℕ) where
   ahead-left (suc n) s = omega (arith, ahead-left n s)
 
   -- The stage that printing answers.
-  pub ran-all : RanAll engine file (finished engine file)
+  pub ran-all : RanAll engine file (lastStage engine file)
   unfolding startOf
   ran-all =
       record {

@@ -27,7 +27,7 @@ none h = absurd (no h)
 
 -- ---- what a stage that came so has: a host that holds a state, the bodies that are left, and positions that fit
 
-pub record Ready (file : List ℕ) (s : Stage) : Type 0 where
+pub record StageReady (file : List ℕ) (s : Stage) : Type 0 where
   pub held : Held (s .host)
   pub bodies : 0 < s .left → Bodies file (s .at) (s .left)
   pub few : s .position + s .left ≤ fileMax
@@ -56,7 +56,7 @@ module _ (file : List ℕ) where
       no : (m : ℕ) → suc m ≡ 0 → ⊥
       no m z = omega arith
 
-  start-ready : (code : ℕ) → codeOfFile file ≡ code → Ready file (startOf file)
+  start-ready : (code : ℕ) → codeOfFile file ≡ code → StageReady file (startOf file)
   start-ready zero h =
       rw (start-good h) (record { held = held-fresh; bodies = λ l. good-bodies file h; few = omega (arith, is-good file h .short, is-good file h .table) })
   start-ready (suc n) h =
@@ -65,11 +65,11 @@ module _ (file : List ℕ) where
       no : (m : ℕ) → suc m ≡ 0 → ⊥
       no m z = omega arith
 
-pub ready : {file : List ℕ} {s : Stage} → Came file s → Ready file s
+pub ready : {file : List ℕ} {s : Stage} → Came file s → StageReady file s
 unfolding onward
 ready {file} started = start-ready file (codeOfFile file) refl
 ready {file} (went {s} k h engine) =
-    let r : Ready file s = ready k in
+    let r : StageReady file s = ready k in
     record {
       held = held-next (s .host) (r .held) engine (eventAt file (s .at));
       bodies = λ l. bodies-turn file (s .at) (s .left) h (r .bodies h);

@@ -15,7 +15,7 @@ use Rattle.runfile.specs.File.{fileOf, codeOfFile}
 use Rattle.lines.specs.Text.{textOf}
 use Rattle.lines.specs.Buffer.{lineBytes, written, hasRoom, putLine}
 use Rattle.lines.proofs.Writing.{roomy, length-grows, line-text}
-use Rattle.replaying.specs.Replay.{Stage, Wrote, firstLine, eventsIn, textOfFile, replayed, startOf, nextLine, onward, ahead, finished, Came, started, went, wrote, begun, pieceFrom, pieceOf, textsFrom, together}
+use Rattle.replaying.specs.Replay.{Stage, Wrote, firstLine, eventsIn, textOfFile, replayed, startOf, nextLine, onward, ahead, lastStage, Came, started, went, wrote, begun, pieceFrom, pieceOf, textsFrom, together}
 use Rattle.replaying.proofs.Turns.{start-events, rest, rest-turn, rest-over}
 use Rattle.replaying.proofs.Going.{piece-turn}
 
@@ -142,5 +142,5 @@ module _ (engine : Engine) (file : List ℕ) where
         fewer = omega (arith, t .fewer, v .fewer);
       }
 
-  pub through-all : {s : Stage} → Through s → s .left ≤ 0 → s ≡ finished engine file
+  pub through-all : {s : Stage} → Through s → s .left ≤ 0 → s ≡ lastStage engine file
   through-all {s} t h = let e : startOf file .left - s .left ≡ startOf file .left = omega arith in t .is ∙ ap (ahead engine file (startOf file)) e

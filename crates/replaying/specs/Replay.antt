@@ -76,8 +76,8 @@ ahead engine file s zero = s
 ahead engine file s (suc n) = onward engine file (ahead engine file s n)
 
 -- behind all events of a file
-abbrev pub finished : Engine → List ℕ → Stage
-finished engine file = ahead engine file (startOf file) (startOf file .left)
+abbrev pub lastStage : Engine → List ℕ → Stage
+lastStage engine file = ahead engine file (startOf file) (startOf file .left)
 
 -- The one premise of a piece: host and progress are those of a start, or came back from a piece, of either engine.
 pub data Came (file : List ℕ) : Stage → Type 0 where

@@ -11,18 +11,18 @@ use Rattle.model.specs.Runs.{run}
 use Rattle.host.specs.Holding.{hostOf}
 use Rattle.runfile.specs.File.{fileOf}
 use Rattle.lines.specs.Text.{badLine, eventText}
-use Rattle.replaying.specs.Replay.{eventsIn, replayed, Stage, finished}
+use Rattle.replaying.specs.Replay.{eventsIn, replayed, Stage, lastStage}
 
 -- a line of the quick and of the plain engine: the same, or an event's that differ in the looks alone
 pub data LinesAlike : List ℕ → List ℕ → Type 0 where
-  same : (line : List ℕ) → LinesAlike line line
-  looks : (position : ℕ) (code : ℤ) (value quick plain : ℕ) (wakings : List Waking) → quick ≤ plain → plain ≤ 36
+  sameLine : (line : List ℕ) → LinesAlike line line
+  otherLooks : (position : ℕ) (code : ℤ) (value quick plain : ℕ) (wakings : List Waking) → quick ≤ plain → plain ≤ 36
       → LinesAlike (eventText position code value quick wakings) (eventText position code value plain wakings)
 
 -- two texts, line by line
 pub data TextsAlike : List ℕ → List ℕ → Type 0 where
-  over : TextsAlike [] []
-  line : {a b x y : List ℕ} → LinesAlike a b → TextsAlike x y → TextsAlike (a ++ x) (b ++ y)
+  noLine : TextsAlike [] []
+  andLine : {a b x y : List ℕ} → LinesAlike a b → TextsAlike x y → TextsAlike (a ++ x) (b ++ y)
 
 -- behind the last line: the host is that of the run of the file's events, and none of them is left
 pub record RanAll (engine : Engine) (file : List ℕ) (s : Stage) : Type 0 where
@@ -33,4 +33,4 @@ pub record RanAll (engine : Engine) (file : List ℕ) (s : Stage) : Type 0 where
 -- a file that is refused with a code: one line, and a host to which nothing has happened
 pub record RanNothing (engine : Engine) (file : List ℕ) (code : ℕ) : Type 0 where
   pub text : replayed engine file ≡ badLine code
-  pub host : finished engine file .host ≡ hostOf freshState
+  pub host : lastStage engine file .host ≡ hostOf freshState

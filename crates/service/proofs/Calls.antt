@@ -10,15 +10,14 @@ use Rattle.model.specs.declared.Reply.the-variants as reply
 use Rattle.model.specs.State.{freshState}
 use Rattle.model.specs.Waking.{waker}
 use Rattle.model.specs.Events.{Event, isQuery, Answer, Result, event}
-use Rattle.model.specs.Runs.{run, came, start, Pairwise, end}
-use Rattle.model.specs.Runs as lists
+use Rattle.model.specs.Runs.{run, came, start, Pairwise, end, next}
 use Rattle.model.proofs.EventLaws.{Agrees}
 use Rattle.model.proofs.Engines.{event-agrees, reached, engines-agree}
 use Rattle.host.specs.Holding.{Host, hostOf, stateIn, Held}
 use Rattle.host.proofs.HeldLaws.{state-back, held-fresh, held-next}
 use Rattle.wakings.specs.Wakings.{listOf}
 use Rattle.service.specs.After.{telling, toldOf, showing, queriedOf, Replied, tells, repliedOf}
-use Rattle.service.specs.Calls.{Call, creates, operates, setsValue, removes, signals, exits, queries, runs, Called, over, next, lastHost, repliesOf, CallsAlike, CallsAgree}
+use Rattle.service.specs.Calls.{Call, creates, operates, setsValue, removes, signals, exits, queries, runs, Called, noCall, andCall, lastHost, repliesOf, CallsAlike, CallsAgree}
 use Rattle.service.proofs.ReplyLaws.{seen}
 
 -- ---- one call
@@ -51,15 +50,15 @@ module _ (engine : Engine) (x : Host) (k : Held x) (e : Event) (y : Replied) (c 
 -- what they leave and return is what the engine's run gives, step by step
 calls-run : (engine : Engine) (x : Host) → Held x → (es : List Event) (ys : List Replied) → Called engine x es ys → ys ≡ repliesOf es (run engine (stateIn x) es .results)
 unfolding run repliesOf
-calls-run engine x k es ys over = refl
-calls-run engine x k es ys (next {e = e} {es = rest} {y = y} {ys = more} c cs) =
+calls-run engine x k es ys noCall = refl
+calls-run engine x k es ys (andCall {e = e} {es = rest} {y = y} {ys = more} c cs) =
     ap₂ _∷_ (call-is engine x k e y c)
     (rw (state-is engine x k e y c) at (calls-run engine (y .host) (host-held engine x k e y c) rest more cs))
 
 calls-last : (engine : Engine) (x : Host) → Held x → (es : List Event) (ys : List Replied) → Called engine x es ys → lastHost x ys ≡ hostOf (run engine (stateIn x) es .last)
 unfolding run lastHost
-calls-last engine x k es ys over = k .holds
-calls-last engine x k es ys (next {e = e} {es = rest} {y = y} {ys = more} c cs) =
+calls-last engine x k es ys noCall = k .holds
+calls-last engine x k es ys (andCall {e = e} {es = rest} {y = y} {ys = more} c cs) =
     rw (state-is engine x k e y c) at (calls-last engine (y .host) (host-held engine x k e y c) rest more cs)
 
 -- ---- both engines
@@ -88,12 +87,12 @@ replies-alike e a b g = go (isQuery e)
         }
 
 calls-alike : (x : Host) → Held x → (es : List Event) (ys zs : List Replied) → Called Quick x es ys → Called Plain x es zs → Pairwise CallsAlike ys zs
-calls-alike x k es ys zs over over = end
-calls-alike x k es ys zs (next {e = e} {es = rest} {y = y} {ys = more} c cs) (next {y = z} {ys = less} d ds) =
+calls-alike x k es ys zs noCall noCall = end
+calls-alike x k es ys zs (andCall {e = e} {es = rest} {y = y} {ys = more} c cs) (andCall {y = z} {ys = less} d ds) =
     let g : Agrees (event (waker Quick) (stateIn x) e) (event (waker Plain) (stateIn x) e) = event-agrees (stateIn x) e (reached (k .reached)) in
     let h : y .host ≡ z .host = host-is Quick x k e y c ∙ ap hostOf (g .state) ∙ sym (host-is Plain x k e z d) in
     let a : CallsAlike y z = rw (call-is Quick x k e y c, call-is Plain x k e z d) (replies-alike e _ _ g) in
-    lists.next a (calls-alike (y .host) (host-held Quick x k e y c) rest more less cs (subst (λ (w : Host). Called Plain w rest less) (sym h) ds))
+    next a (calls-alike (y .host) (host-held Quick x k e y c) rest more less cs (subst (λ (w : Host). Called Plain w rest less) (sym h) ds))
 
 -- Demand 3, over calls of the code.
 pub calls-agree : (events : List Event) (quick plain : List Replied) → Called Quick (hostOf freshState) events quick → Called Plain (hostOf freshState) events plain

@@ -206,17 +206,17 @@ module _ (q : List Sleeper) (i : ℕ) (test : Sleeper → Bool) (m : ℕ) where
   mask-over h = rw (drop-of-length-le q {i = i} h)
 
 -- the masks so far, with those of the sleepers to come, are those of the whole queue
-pub record Walked (t : Table) (slot n : ℕ) (q : List Sleeper) (increase zero i : ℕ) : Type 0 where
+pub record Gathered (t : Table) (slot n : ℕ) (q : List Sleeper) (increase zero i : ℕ) : Type 0 where
   pub within : i ≤ length q
   pub increases : maskOf (forIncrease t slot n) increase (drop i q) ≡ maskOf (forIncrease t slot n) 0 q
   pub zeros : maskOf (forZero t slot n) zero (drop i q) ≡ maskOf (forZero t slot n) 0 q
 
 module _ {t : Table} {slot n : ℕ} {q : List Sleeper} where
-  pub walked-none : Walked t slot n q 0 0 0
+  pub walked-none : Gathered t slot n q 0 0 0
   walked-none = record { within = omega arith; increases = refl; zeros = refl }
 
-  module _ {increase zero i : ℕ} (w : Walked t slot n q increase zero i) where
-    pub walked-more : {o : Waiters} → i < length q → o ≡ waitsOf t slot n (getD q i noSleeper) → Walked t slot n q (bitOr increase (o .increase)) (bitOr zero (o .zero)) (i + 1)
+  module _ {increase zero i : ℕ} (w : Gathered t slot n q increase zero i) where
+    pub walked-more : {o : Waiters} → i < length q → o ≡ waitsOf t slot n (getD q i noSleeper) → Gathered t slot n q (bitOr increase (o .increase)) (bitOr zero (o .zero)) (i + 1)
     walked-more {o} h e =
         record {
           within = omega arith;
@@ -224,7 +224,7 @@ module _ {t : Table} {slot n : ℕ} {q : List Sleeper} where
           zeros = rw (ap (λ (x : Waiters). x .zero) e) (sym (mask-more q i (forZero t slot n) zero h) ∙ w .zeros);
         }
 
-    pub walked-by : i < length q → noWaiters ≡ waitsOf t slot n (getD q i noSleeper) → Walked t slot n q increase zero (i + 1)
+    pub walked-by : i < length q → noWaiters ≡ waitsOf t slot n (getD q i noSleeper) → Gathered t slot n q increase zero (i + 1)
     walked-by h e = rw (or-zero-r increase, or-zero-r zero) at (walked-more h e)
 
     pub walked-all : length q ≤ i → record { increase = increase; zero = zero } ≡ waitersOf t slot n q

@@ -11,7 +11,7 @@ use Rattle.model.specs.Limits.{slots}
 use Rattle.model.specs.State.{Table, Sleeper, freeSet, noSet, cleared}
 use Rattle.model.specs.Marks.{mine}
 use Rattle.model.specs.Checks.{slotOf, freeSlot, identifierOf, checkCreate, checkRemove}
-use Rattle.model.specs.Events.{keep, endedWith, doCreate, doRemove}
+use Rattle.model.specs.Events.{keep, endedWith, doCreate, doRemove, notMine}
 use Rattle.model.proofs.CheckLaws.{create-passes, remove-passes}
 use Rattle.host.specs.Parts.{Row}
 use Rattle.host.specs.Holding.{Host, withQueue, withTable, hostOf, setAt, withSet, setsIn, queueIn, tableIn, stateIn, Held, arrayIn}
@@ -20,7 +20,6 @@ use Rattle.host.proofs.PartLaws.{setParts, queueParts, by-groups}
 use Rattle.host.proofs.SetRows.{set-in}
 use Rattle.wakings.specs.Wakings.{listOf}
 use Rattle.service_table.specs.Written.{tabled}
-use Rattle.service_queue.specs.Seated.{notMine}
 use Rattle.service.specs.After.{telling, afterOf}
 use Rattle.service.proofs.EventLaws.{held-row, held-queued, goes-on}
 

@@ -30,8 +30,8 @@ pub data Call (engine : Engine) (x : Host) : Event → Replied → Type 0 where
 
 -- calls in a row, "each handed the state its engine's last one returned"
 pub data Called (engine : Engine) : Host → List Event → List Replied → Type 0 where
-  over : {x : Host} → Called engine x [] []
-  next : {x : Host} {e : Event} {es : List Event} {y : Replied} {ys : List Replied} → Call engine x e y → Called engine (y .host) es ys → Called engine x (e ∷ es) (y ∷ ys)
+  noCall : {x : Host} → Called engine x [] []
+  andCall : {x : Host} {e : Event} {es : List Event} {y : Replied} {ys : List Replied} → Call engine x e y → Called engine (y .host) es ys → Called engine x (e ∷ es) (y ∷ ys)
 
 -- the host after them
 unfoldable pub lastHost : Host → List Replied → Host

@@ -15,7 +15,7 @@ use Rattle.model.specs.Limits.{processes}
 use Rattle.model.specs.State.{Sleeper, noSleeper}
 use Rattle.model.specs.Waking.{without}
 use Rattle.model.specs.Checks.{asleep}
-use Rattle.model.specs.Events.{keep}
+use Rattle.model.specs.Events.{keep, notOf}
 use Rattle.model.specs.Runs.{All, none, also}
 use Rattle.model.specs.Invariant.{Distinct, apart}
 use Rattle.model.proofs.Lists.{first, rest, all-map, all-at}
@@ -26,7 +26,7 @@ use Rattle.host.specs.Queue.{Room, QueueHeld}
 use Rattle.host.proofs.PartLaws.{less-or-not}
 use Rattle.host.proofs.ProcessLaws.{Awake, of-none, length-by, of-process}
 use Rattle.host.proofs.QueueRows.{entry-is}
-use Rattle.service_queue.specs.Seated.{Seated, notOf, positionOf}
+use Rattle.service_queue.specs.Seated.{Seated, positionOf}
 use Rattle.service_queue.proofs.QueueHeldLaws.{part-is, process-is}
 
 -- ---- it sleeps if its array has bytes

@@ -15,7 +15,7 @@ use Rattle.model.specs.Limits.{processes}
 use Rattle.model.specs.State.{Sleeper, noSleeper}
 use Rattle.model.specs.Marks.{mine}
 use Rattle.model.specs.Waking.{without, waking}
-use Rattle.model.specs.Events.{keep, endedWith}
+use Rattle.model.specs.Events.{keep, endedWith, notMine}
 use Rattle.model.proofs.Lists.{length-without}
 use Rattle.host.specs.Parts.{Row, order, sleepsAt}
 use Rattle.host.specs.Holding.{withQueue, entry, queueIn}
@@ -23,7 +23,6 @@ use Rattle.host.specs.Queue.{Queued, QueueHeld}
 use Rattle.host.proofs.QueueRows.{queued-without}
 use Rattle.wakings.specs.Wakings.{listOf}
 use Rattle.wakings.proofs.ListLaws.{noted}
-use Rattle.service_queue.specs.Seated.{notMine}
 use Rattle.service_queue.proofs.MovingLaws.{without-split}
 use Rattle.service_queue.proofs.QueueHeldLaws.{queue-again, shows, row-with, process-is, slot-is}
 

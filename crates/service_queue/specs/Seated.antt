@@ -1,12 +1,11 @@
--- A row whose parts hold the queue that they show, no array of it empty; and who is kept.
+-- A row whose parts hold the queue that they show, no array of it empty.
 use Prim.Native.Nat.{ℕ, suc, _-_, _<_}
-use mathlib.Core.Bool.{Bool, cond, not}
+use mathlib.Core.Bool.{cond}
 use mathlib.Core.List.{List, [], _∷_}
 use lib.Dec.{eqb}
 use lib.ListN.{length, drop, set}
 use lib.Seq.{paste}
 use Rattle.model.specs.State.{Sleeper}
-use Rattle.model.specs.Marks.{mine}
 use Rattle.model.specs.Runs.{All}
 use Rattle.host.specs.Parts.{Row}
 use Rattle.host.specs.Holding.{queueIn}
@@ -15,13 +14,6 @@ use Rattle.host.specs.Queue.{QueueHeld}
 pub record Seated (r : Row) : Type 0 where
   pub holding : QueueHeld r
   pub some : All (λ (s : Sleeper). 0 < length (s .array)) (queueIn r)
-
--- those of other processes, and those that sleep at other sets
-abbrev pub notOf : ℕ → Sleeper → Bool
-notOf p s = not (eqb (s .process) p)
-
-abbrev pub notMine : ℕ → Sleeper → Bool
-notMine slot s = not (mine slot s)
 
 -- the position of the first sleeper of a process; the number of the sleepers if there is none
 unfoldable pub positionOf : ℕ → List Sleeper → ℕ

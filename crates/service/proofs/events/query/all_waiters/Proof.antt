@@ -1,4 +1,4 @@
--- `service::events::query::all_waiters` meets its contract. The loop's invariant is `Walked`.
+-- `service::events::query::all_waiters` meets its contract. The loop's invariant is `Gathered`.
 use Prim.Native.Nat.{ℕ, _-_, _<_}
 use mathlib.Core.Path.{_≡_, _∙_, ap}
 use mathlib.Core.Logic.{⊎-elim}
@@ -9,12 +9,12 @@ use Rattle.host.specs.Holding.{Host, hostIn, tableIn, queueIn}
 use Rattle.service_queue.proofs.QueueHeldLaws.{asleep-is}
 use Rattle.service.specs.Waiting.{waitsOf}
 use Rattle.service.proofs.EventLaws.{held-row}
-use Rattle.service.proofs.QueryLaws.{Walked, walked-none, walked-more, walked-by, walked-all, process-there, not-naming, names-here, waits-unconcerned}
+use Rattle.service.proofs.QueryLaws.{Gathered, walked-none, walked-more, walked-by, walked-all, process-there, not-naming, names-here, waits-unconcerned}
 use Rattle.service.proofs.events.query.all_waiters.Statement.{statement}
 use Rattle.service.proofs.events.query.all_waiters.Tie as tie
 
 abbrev Inv-loop : tie.InvT-loop
-Inv-loop host adjustments slot number n naming increase₀ zero₀ i₀ increase zero i = Walked (tableIn (hostIn host adjustments)) slot number (queueIn (hostIn host adjustments .row)) increase zero i
+Inv-loop host adjustments slot number n naming increase₀ zero₀ i₀ increase zero i = Gathered (tableIn (hostIn host adjustments)) slot number (queueIn (hostIn host adjustments .row)) increase zero i
 
 abbrev μ-loop : tie.MeasureT-loop
 μ-loop host adjustments slot number n naming increase₀ zero₀ i₀ increase zero i = n - i

@@ -11,7 +11,7 @@ use Rattle.model.specs.Limits.{slots}
 use Rattle.model.specs.State.{Table, Sleeper}
 use Rattle.model.specs.Checks.{checkProcess}
 use Rattle.model.specs.Waking.{waker}
-use Rattle.model.specs.Events.{exited, keep, touchedFrom, treatFrom, world, doExit}
+use Rattle.model.specs.Events.{exited, keep, touchedFrom, treatFrom, world, doExit, notOf}
 use Rattle.model.specs.Runs.{All}
 use Rattle.model.specs.Invariant.{Good, Fits, Distinct}
 use Rattle.model.proofs.CheckLaws.{process-passes}
@@ -22,7 +22,6 @@ use Rattle.host.specs.Holding.{Host, withQueue, withTable, setsFrom, setsIn, qu
 use Rattle.wakings.specs.Wakings.{listOf}
 use Rattle.service_table.specs.Numbered.{IsProcess}
 use Rattle.service_table.specs.Written.{tabled}
-use Rattle.service_queue.specs.Seated.{notOf}
 use Rattle.service_waking.specs.Lent.{Left, unwoken, Ready, treatedFrom}
 use Rattle.service_waking.proofs.LentLaws.{table-under}
 use Rattle.service.specs.After.{telling, afterOf}

@@ -14,7 +14,7 @@ use Rattle.model.specs.declared.Waking.{Waking}
 use Rattle.model.specs.State.{Sleeper}
 use Rattle.model.specs.Checks.{asleep, checkProcess}
 use Rattle.model.specs.Waking.{waking}
-use Rattle.model.specs.Events.{keep, endedWith, isOf, doSignal}
+use Rattle.model.specs.Events.{keep, endedWith, isOf, doSignal, notOf}
 use Rattle.model.specs.Runs.{All, none, also}
 use Rattle.model.specs.Invariant.{Distinct, apart}
 use Rattle.model.proofs.QueueLaws.{awake}
@@ -22,7 +22,6 @@ use Rattle.host.specs.Parts.{Row}
 use Rattle.host.specs.Holding.{Host, withQueue, hostOf, setsIn, queueIn, tableIn, stateIn, Held}
 use Rattle.wakings.specs.Wakings.{listOf}
 use Rattle.wakings.proofs.ListLaws.{noted}
-use Rattle.service_queue.specs.Seated.{notOf}
 use Rattle.service_waking.proofs.LentLaws.{table-same}
 use Rattle.service.specs.After.{telling, afterOf}
 use Rattle.service.proofs.EventLaws.{held-invariant, host-of, goes-on}
