@@ -1,5 +1,23 @@
 // Replays a run file from standard input with the plain engine, and writes its lines on standard output.
+ghost use mathlib.Core.Path.{_≡_};
+ghost use Rattle.model.specs.declared.Engine.the-variants.{Plain};
+ghost use Rattle.host.specs.Holding.{hostIn};
+ghost use Rattle.replaying.specs.Replay.{stageIn, lastStage};
+use host::HOST_BYTES;
+use model::ALL_ADJUSTMENTS;
 use model::Engine;
+use replaying::Progress;
+
+// Replays a file with the plain engine: what the program is named for.
+fn plain(
+    host: &mut [u8; HOST_BYTES],
+    adjustments: &mut [i16; ALL_ADJUSTMENTS],
+    file: &[u8],
+) -> Progress
+    ensures { λ r. ⌜ stageIn (hostIn (now (host .exit)) (now (adjustments .exit))) r ≡ lastStage Plain (now (file .entry)) ⌝ }
+{
+    console::print(host, adjustments, Engine::Plain, file)
+}
 
 // At most one byte more than the longest file is read: by it a longer one is noticed.
 fn main() {
@@ -7,5 +25,5 @@ fn main() {
     let read = io::read_full(libc::STDIN_FILENO, &mut space);
     let mut host = host::fresh();
     let mut adjustments = host::no_adjustments();
-    console::print(&mut host, &mut adjustments, Engine::Plain, &space[..read]);
+    plain(&mut host, &mut adjustments, &space[..read]);
 }

@@ -1,7 +1,7 @@
--- "Whole example, 44 bytes", from its bytes to its text, computed in both engines; and a refused file.
+-- "Whole example, 44 bytes", from its bytes to its text, computed in both engines.
 use Prim.Native.Nat.{ℕ}
 use mathlib.Core.Path.{_≡_, refl}
-use mathlib.Core.List.{List, [], _∷_, append-nil}
+use mathlib.Core.List.{List, [], _∷_}
 use Rattle.model.specs.declared.Engine.{Engine}
 use Rattle.model.specs.declared.Engine.the-variants.{Plain, Quick}
 use Rattle.model.specs.Operation.{signed16, operationsFrom, isZero}
@@ -16,9 +16,9 @@ use Rattle.model.specs.Runs.{run}
 use Rattle.runfile.specs.Fields.{wordAt, signed32}
 use Rattle.runfile.specs.Table.{countIn, entriesFrom, chains}
 use Rattle.runfile.specs.Body.{sizeOf, sizeIn, operationsIn, eventIn, bodyCode}
-use Rattle.runfile.specs.File.{fileOf, eventsOf, bad}
+use Rattle.runfile.specs.File.{fileOf, eventsOf}
 use Rattle.runfile.proofs.Examples.{example}
-use Rattle.lines.specs.Text.{digitsIn, digitsOf, signedOf, wordLine, badLine, wakingText, wakingsText, eventText, lineOf, textOf}
+use Rattle.lines.specs.Text.{digitsIn, digitsOf, signedOf, wordLine, wakingText, wakingsText, eventText, lineOf, textOf}
 use Rattle.replaying.specs.Replay.{firstLine, eventsIn, textOfFile, replayed}
 
 -- `events 3`, `0 0 0 0`, `1 -1 0 0`, `2 0 0 1 1=0`
@@ -33,8 +33,3 @@ whole-example : (engine : Engine) → replayed engine example ≡ text
 unfolding firstLine eventsIn textOfFile textOf lineOf eventText wakingsText wakingText wordLine signedOf digitsOf digitsIn fileOf eventsOf bodyCode eventIn operationsIn sizeIn sizeOf chains entriesFrom countIn signed32 wordAt run event doCreate operated doOperate identifierOf slotOf namesSet noProcess asleep numberTooHigh permitted freeFrom checkCreate checkOperate clearRows cleared waker plain quick plainRound quickRound finish without look lastsAfter applied after valuesOf adjustmentsOf judgeFrom goOn step nextValue nextAdjustment codeOf finishes operationsFrom signed16 isZero unmark marked namedBy differing mine maskOf
 whole-example Plain = refl
 whole-example Quick = refl
-
--- "A refused file writes one line", whatever its events would have done
-pub refused-alone : (engine : Engine) (file : List ℕ) (code : ℕ) → fileOf file ≡ bad code → replayed engine file ≡ badLine code
-unfolding firstLine eventsIn textOfFile textOf
-refused-alone engine file code e = rw e (append-nil (badLine code))
