@@ -12,7 +12,8 @@ use replaying::piece;
 use replaying::start;
 
 // Writes the text of a file, in large pieces, and answers the progress behind all of its events. Whatever the host held, it
-// begins as a fresh one and is left as the last event left it.
+// begins as a fresh one and is left as the last event left it. Behind a write that fails or takes nothing no other is made,
+// so that what was written is a beginning of the text, with no hole in it; the events run on to the last all the same.
 pub fn print(
     host: &mut [u8; HOST_BYTES],
     adjustments: &mut [i16; ALL_ADJUSTMENTS],
@@ -25,7 +26,7 @@ pub fn print(
     *adjustments = no_adjustments();
     let mut out = io::large_buffer();
     let mut progress = start(file, &mut out);
-    io::write_all(libc::STDOUT_FILENO, &out[..progress.written]);
+    let mut whole = io::write_all(libc::STDOUT_FILENO, &out[..progress.written]);
     while 0 < progress.left {
         progress = piece(
             &mut *host,
@@ -35,7 +36,9 @@ pub fn print(
             progress,
             &mut out,
         );
-        io::write_all(libc::STDOUT_FILENO, &out[..progress.written]);
+        if whole {
+            whole = io::write_all(libc::STDOUT_FILENO, &out[..progress.written]);
+        }
     }
     progress
 }

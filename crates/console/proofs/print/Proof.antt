@@ -1,5 +1,6 @@
 -- `console::print` meets its contract. The loop's invariant: host and progress are behind some of the events, and the buffer is
 -- as long as it was.
+use Prim.Native.Nat.{ℕ, _<_}
 use mathlib.Core.Path.{_≡_, sym, ap, ap₂, subst, _∙_}
 use mathlib.Core.List.{List}
 use native.Mathlib.Omega.{arith}
@@ -16,11 +17,11 @@ use Rattle.console.proofs.print.Statement.{statement}
 use Rattle.console.proofs.print.Tie as tie
 
 abbrev Inv-loop : tie.InvT-loop
-Inv-loop host₀ adjustments₀ engine file out₀ progress₀ host adjustments out progress =
+Inv-loop host₀ adjustments₀ engine file out₀ progress₀ whole₀ host adjustments out progress whole =
     Through engine file (stageIn (hostIn host adjustments) progress) × (65536 ≡ length out)
 
 abbrev μ-loop : tie.MeasureT-loop
-μ-loop host₀ adjustments₀ engine file out₀ progress₀ host adjustments out progress = progress .left
+μ-loop host₀ adjustments₀ engine file out₀ progress₀ whole₀ host adjustments out progress whole = progress .left
 
 -- how far a call has come, by its equation
 moved : {w v : Wrote} → w ≡ v → w .stage ≡ v .stage
@@ -71,29 +72,49 @@ piece-requires : tie.Need-piece-requires Inv-loop μ-loop
 piece-requires c κs = c .before .before .before .before .before .loop .inv .0 .came
 
 array-share-prefix-out-2 : tie.Need-array-share-prefix-out-2 Inv-loop μ-loop
-array-share-prefix-out-2 c = c .before .piece .ensures .1
+array-share-prefix-out-2 c = c .before .before .piece .ensures .1
 
 slice-aggregate-write-all-2 : tie.Need-slice-aggregate-write-all-2 Inv-loop μ-loop
-slice-aggregate-write-all-2 c = sym (length-take-le _ _ (c .before .before .piece .ensures .1))
+slice-aggregate-write-all-2 c = sym (length-take-le _ _ (c .before .before .before .piece .ensures .1))
 
 write-all-requires-2 : tie.Need-write-all-requires-2 Inv-loop μ-loop
 write-all-requires-2 c κs = search needs
 
+-- the turn of a piece, and the entry
+abbrev turn : tie.After-piece Inv-loop μ-loop → tie.Then1 Inv-loop μ-loop
+turn c = c .before .before .before .before
+
+abbrev entry : tie.After-piece Inv-loop μ-loop → tie.Start Inv-loop μ-loop
+entry c = turn c .before .before .before .before .before .before .before .before .before .before .before .before
+
+-- behind a piece fewer events are left, whether or not its text is written
+fewer : (c : tie.After-piece Inv-loop μ-loop) → c .piece .result .left < turn c .before .before .loop .progress .left
+fewer c =
+    let l = turn c .before .before .loop in
+    let m = piece-moves _ _ (l .out) (l .inv .0 .came) (turn c .if1 .taken) (omega (arith, l .inv .1)) in
+    subst (λ (n : ℕ). n < l .progress .left) (sym (ap (λ (s : Stage). s .left) (moved (c .piece .ensures .0)))) m
+
+-- .. and the invariant holds again
+again : (c : tie.After-piece Inv-loop μ-loop)
+    → Through (entry c .args .engine) (entry c .args .file .now) (stageIn (hostIn (c .piece .last .0) (c .piece .last .1 .0)) (c .piece .result))
+    × (65536 ≡ length (c .piece .last .1 .1 .1 .1 .1 .0))
+again c =
+    let l = turn c .before .before .loop in (
+      subst (Through _ _) (sym (moved (c .piece .ensures .0))) (through-piece _ _ (l .out) (l .inv .0)),
+      l .inv .1 ∙ sym (c .piece .kept .1 .1 .1 .1 .1 .0),
+    )
+
 loop-less : tie.Need-loop-less Inv-loop μ-loop
-loop-less c =
-    let p = c .before .before .before in
-    let i = p .before .before .before .before in
-    let l = i .before .before .loop in
-    let m = piece-moves _ _ (l .out) (l .inv .0 .came) (i .if1 .taken) (omega (arith, l .inv .1)) in
-    rw (ap (λ (s : Stage). s .left) (moved (p .piece .ensures .0))) m
+loop-less c = fewer (c .before .before .before .before)
 
 loop-again : tie.Need-loop-again Inv-loop μ-loop
-loop-again c =
-    let p = c .before .before .before in
-    let l = p .before .before .before .before .before .before .loop in (
-      subst (Through _ _) (sym (moved (p .piece .ensures .0))) (through-piece _ _ (l .out) (l .inv .0)),
-      l .inv .1 ∙ sym (p .piece .kept .1 .1 .1 .1 .1 .0),
-    )
+loop-again c = again (c .before .before .before .before)
+
+loop-less-2 : tie.Need-loop-less-2 Inv-loop μ-loop
+loop-less-2 c = fewer (c .before .before)
+
+loop-again-2 : tie.Need-loop-again-2 Inv-loop μ-loop
+loop-again-2 c = again (c .before .before)
 
 -- ---- behind the loop
 
@@ -122,4 +143,6 @@ print-spec =
     write-all-requires-2
     loop-less
     loop-again
+    loop-less-2
+    loop-again-2
     returns)
