@@ -2,4 +2,5 @@
 pub mod Bytes
 pub mod Loops
 pub mod Walk
+pub mod Beginnings
 pub mod Examples
