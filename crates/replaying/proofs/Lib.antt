@@ -5,4 +5,5 @@ pub mod Replies
 pub mod Going
 pub mod Whole
 pub mod Texts
+pub mod Beginnings
 pub mod Examples
