@@ -2,7 +2,7 @@
 use Prim.Native.Nat.{ℕ, zero, suc, _+_, _-_, _<_, _≤_}
 use mathlib.Core.Path.{_≡_, refl, sym}
 use mathlib.Core.Bool.{Bool, true, false, cond}
-use mathlib.Core.List.{List, [], _++_, append-assoc, append-nil}
+use mathlib.Core.List.{List, [], _++_, append-assoc}
 use native.Mathlib.Omega.{arith}
 use lib.Dec.{ltb}
 use lib.ListN.{length, take}
@@ -11,10 +11,11 @@ use Rattle.model.specs.declared.Engine.{Engine}
 use Rattle.runfile.specs.Table.{tableEnd, countIn}
 use Rattle.runfile.specs.File.{codeOfFile}
 use Rattle.runfile.proofs.Beginnings.{beginning}
-use Rattle.lines.specs.Text.{badLine, textOf}
 use Rattle.lines.specs.Buffer.{lineBytes}
-use Rattle.replaying.specs.Replay.{Stage, firstLine, eventsIn, textOfFile, replayed, begun, pieceOf, textsFrom, together}
+use Rattle.replaying.specs.Replay.{Stage, replayed, begun, pieceOf, textsFrom, together}
+use Rattle.replaying.specs.Texts.{firsts, RanNothing}
 use Rattle.replaying.proofs.Whole.{whole}
+use Rattle.replaying.proofs.Texts.{ran-nothing}
 
 -- ---- of the text
 
@@ -38,24 +39,19 @@ module _ (engine : Engine) (file : List ℕ) where
       by true g = g
       by false g = record { rest = []; is = refl }
 
-  -- the texts of a start and of the first k pieces behind it
-  abbrev pub firsts : List ℕ → ℕ → List ℕ
-  firsts out k = let w = begun file out in take (w .written) (w .out) ++ textsFrom k engine file (w .stage) (w .out)
-
   -- Whatever part of them was written, it is a beginning of the whole text.
-  pub written-begins : (out : List ℕ) (k n : ℕ) → lineBytes ≤ length out → k ≤ begun file out .stage .left → n ≤ length (firsts out k)
-      → take n (firsts out k) ≡ take n (replayed engine file)
+  pub written-begins : (out : List ℕ) (k n : ℕ) → lineBytes ≤ length out → k ≤ begun file out .stage .left → n ≤ length (firsts engine file out k)
+      → take n (firsts engine file out k) ≡ take n (replayed engine file)
   unfolding together
   written-begins out k n room h l =
       let w = begun file out in
       let e : k + (w .stage .left - k) ≡ w .stage .left = omega arith in
       let b = behind (take (w .written) (w .out)) (rw e at (texts-begin k (w .stage .left - k) (w .stage) (w .out))) in
-      rw (← whole engine file out room, b .is) (sym (take-append-le n (firsts out k) (b .rest) l))
+      rw (← whole engine file out room, b .is) (sym (take-append-le n (firsts engine file out k) (b .rest) l))
 
 -- ---- of the file
 
 -- the first n bytes of a good one
-pub beginning-text : (engine : Engine) (file : List ℕ) (n : ℕ) → codeOfFile file ≡ 0 → n < length file
-    → replayed engine (take n file) ≡ badLine (cond (ltb n (tableEnd (countIn file))) 201 202)
-unfolding textOfFile firstLine eventsIn textOf
-beginning-text engine file n good h = rw (beginning file n good h) (append-nil _)
+pub beginning-runs-nothing : (engine : Engine) (file : List ℕ) (n : ℕ) → codeOfFile file ≡ 0 → n < length file
+    → RanNothing engine (take n file) (cond (ltb n (tableEnd (countIn file))) 201 202)
+beginning-runs-nothing engine file n good h = ran-nothing engine (take n file) _ (beginning file n good h)

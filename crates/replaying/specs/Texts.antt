@@ -1,9 +1,10 @@
--- What is claimed of whole texts: of both engines' for one file, of a refused file's, and of the host behind the last line.
+-- What is claimed of whole texts: of both engines' for one file, of a beginning, of a refused file's, and of the host behind
+-- the last line.
 use Prim.Native.Nat.{ℕ, _≤_}
 use mathlib.Core.Path.{_≡_}
 use mathlib.Core.List.{List, [], _++_}
 use lib.IntN.{ℤ}
-use lib.ListN.{length}
+use lib.ListN.{length, take}
 use Rattle.model.specs.declared.Engine.{Engine}
 use Rattle.model.specs.declared.Waking.{Waking}
 use Rattle.model.specs.State.{freshState}
@@ -11,7 +12,7 @@ use Rattle.model.specs.Runs.{run}
 use Rattle.host.specs.Holding.{hostOf}
 use Rattle.runfile.specs.File.{fileOf}
 use Rattle.lines.specs.Text.{badLine, eventText}
-use Rattle.replaying.specs.Replay.{eventsIn, replayed, Stage, lastStage}
+use Rattle.replaying.specs.Replay.{eventsIn, replayed, Stage, lastStage, begun, textsFrom}
 
 -- a line of the quick and of the plain engine: the same, or an event's that differ in the looks alone
 pub data LinesAlike : List ℕ → List ℕ → Type 0 where
@@ -23,6 +24,10 @@ pub data LinesAlike : List ℕ → List ℕ → Type 0 where
 pub data TextsAlike : List ℕ → List ℕ → Type 0 where
   noLine : TextsAlike [] []
   andLine : {a b x y : List ℕ} → LinesAlike a b → TextsAlike x y → TextsAlike (a ++ x) (b ++ y)
+
+-- the texts of a start and of the first k pieces behind it, each into the same buffer
+abbrev pub firsts : Engine → List ℕ → List ℕ → ℕ → List ℕ
+firsts engine file out k = let w = begun file out in take (w .written) (w .out) ++ textsFrom k engine file (w .stage) (w .out)
 
 -- behind the last line: the host is that of the run of the file's events, and none of them is left
 pub record RanAll (engine : Engine) (file : List ℕ) (s : Stage) : Type 0 where

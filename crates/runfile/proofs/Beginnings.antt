@@ -9,10 +9,11 @@ use lib.Dec.{eqb, ltb}
 use lib.ListN.{length, take}
 use lib.Seq.{length-take-le, getD-take}
 use borrow.Author.Tests.{ltb-true, ltb-false, lt-ltb, le-ltb, eqb-true, ne-eqb}
+use Rattle.model.proofs.CheckLaws.{and-true}
 use Rattle.runfile.specs.Fields.{halfAt}
 use Rattle.runfile.specs.Table.{fileMax, headBytes, entryBytes, countIn, Entry, entriesFrom, tableOf, tableEnd, chains}
 use Rattle.runfile.specs.File.{bad, fileOf, codeOfFile}
-use Rattle.runfile.proofs.Walk.{both, Good, is-good}
+use Rattle.runfile.proofs.Walk.{GoodFile, is-good}
 
 -- ---- what a beginning still says
 
@@ -35,7 +36,7 @@ one-end : (at : ℕ) (es : List Entry) (end other : ℕ) → chains at es end �
 unfolding chains
 one-end at [] end other c h = ne-eqb at other (λ e. h (sym (eqb-true at end c) ∙ e))
 one-end at (e ∷ es) end other c h =
-    let b = both (eqb (e .offset) at) (chains (at + e .size) es end) c in
+    let b = and-true (eqb (e .offset) at) (chains (at + e .size) es end) c in
     rw (b .0, one-end (at + e .size) es end other (b .1) h)
 
 -- ---- the code of a beginning
@@ -51,7 +52,7 @@ module _ (file : List ℕ) (n : ℕ) (h : n < length file) where
       let whole = le-ltb (length file) headBytes (omega arith) in
       rw (begun-long, cut, whole, half-begun file n 0 (omega arith))
 
-  module _ (g : Good file) where
+  module _ (g : GoodFile file) where
     fits : ltb fileMax n ≡ false
     fits = le-ltb fileMax n (omega (arith, g .short))
 

@@ -1,14 +1,15 @@
 -- What a walk along the bodies of a good file goes by: its events are those decoded from the end of the table on, each body
 -- where the last ended, and every body lies within the file.
 use Prim.Native.Nat.{ℕ, zero, suc, _+_, _-_, _<_, _≤_}
-use mathlib.Core.Path.{_≡_, refl, sym, _∙_}
-use mathlib.Core.Bool.{Bool, true, false, cond, _&&_}
+use mathlib.Core.Path.{_≡_, refl, _∙_}
+use mathlib.Core.Bool.{Bool, true, false, cond}
 use mathlib.Core.List.{List, _∷_}
 use native.Mathlib.Omega.{arith}
 use lib.Dec.{eqb}
 use lib.ListN.{length}
 use borrow.Author.Tests.{ltb-false, eqb-true}
 use Rattle.model.specs.Events.{Event}
+use Rattle.model.proofs.CheckLaws.{and-true}
 use Rattle.runfile.specs.Table.{fileMax, headBytes, entryBytes, countIn, Entry, entryAt, entriesFrom, tableOf, tableEnd, chains}
 use Rattle.runfile.specs.Body.{sizeAt, eventAt, bodyCode, nextAt, eventsFrom}
 use Rattle.runfile.specs.File.{File, bad, good, before, eventsOf, fileOf, badCode, codeOfFile}
@@ -46,7 +47,7 @@ passed false false false true rest h =
     record { long-no = refl; head-no = refl; table-no = refl; chain-yes = refl; bodies = h }
 
 -- a good file's head, table, chain and bodies
-pub record Good (file : List ℕ) : Type 0 where
+pub record GoodFile (file : List ℕ) : Type 0 where
   pub short : length file ≤ fileMax
   pub head : headBytes ≤ length file
   pub table : tableEnd (countIn file) ≤ length file
@@ -54,7 +55,7 @@ pub record Good (file : List ℕ) : Type 0 where
   pub bodies : badCode (eventsOf file (tableOf file (countIn file))) ≡ 0
   pub is : fileOf file ≡ eventsOf file (tableOf file (countIn file))
 
-pub is-good : (file : List ℕ) → codeOfFile file ≡ 0 → Good file
+pub is-good : (file : List ℕ) → codeOfFile file ≡ 0 → GoodFile file
 unfolding fileOf
 is-good file h =
     let p = passed _ _ _ _ (eventsOf file (tableOf file (countIn file))) h in
@@ -68,13 +69,6 @@ is-good file h =
     }
 
 -- ---- along the table
-
-pub both : (a b : Bool) → (a && b) ≡ true → (a ≡ true) × (b ≡ true)
-both true b h = (refl, h)
-both false b h = (h, refl-of h)
-  where
-    refl-of : false ≡ true → b ≡ true
-    refl-of z = let o : _≡_ {A = ℕ} 0 1 = cc in no-code 0 (sym o)
 
 fine : (empty unknown right : Bool) → _≡_ {A = ℕ} (cond empty 204 (cond unknown 203 (cond right 0 204))) 0 → right ≡ true
 fine true unknown right h = no-code 203 h
@@ -107,7 +101,7 @@ unfolding entriesFrom chains eventsOf eventsFrom
 walked file zero from at h k = record { events = refl; bodies = end (eqb-true _ _ h) }
 walked file (suc n) from at h k =
     let e = entryAt file from in
-    let c = both _ _ h in
+    let c = and-true _ _ h in
     let f = first-fine _ _ _ k in
     let o : e .offset ≡ at = eqb-true _ _ (c .0) in
     let b = rw o at (body-fine file (e .offset) (e .size) (f .0)) in
