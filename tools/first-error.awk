@@ -1,0 +1,65 @@
+# The first error in what the prover said of a crate, in one line: the file, the declaration, and what is not so, without
+# line and column, and with long terms cut. Errors that only follow from another ("was not admitted") are passed over. Of
+# two types that differ, the computed ones are shown.
+# usage: awk -v from=FOLDER -f tools/first-error.awk LOG      FOLDER is where the crate stood
+
+# The start of a text, in whole characters.
+function start(text, size) {
+    if (length(text) <= size) return text
+    text = substr(text, 1, size)
+    sub(/[\300-\377][\200-\277]*$/, "", text)
+    return text " .."
+}
+
+# Without the way back through the steps of a function, and without module names.
+function brief(text) {
+    gsub(/( \.before)+/, " ..", text)
+    gsub(/([A-Za-z0-9_]|·|-)+\.([A-Za-z0-9_·-]+\.)*/, "", text)
+    gsub(/[ \t]+/, " ", text)
+    return text
+}
+
+# What an error says, from its lines.
+function told(said) {
+    said = brief(said)
+    if (said ~ /must be a path whose two ends are equal/) return "what `rw` leaves has to be a path whose two ends are equal, and is none"
+    if (said ~ /^expected type /) {
+        sub(/^expected type /, "", said)
+        sub(/^ *but this has type /, "", found)
+        return "expected " start(said, 40) "`, found " start(brief(found), 40) "`"
+    }
+    if (said ~ /^`omega`: the goal does not follow/) return "`omega`: the goal does not follow"
+    if (match(said, / ≟ .*: does not hold/)) return ".." substr(said, RSTART, RLENGTH)
+    return start(said, 220)
+}
+
+started && !/^  / { exit }
+started && /^  but this has type / { found = $0; exit }
+started && (/^  expected type / || /^  the `_` at / || / unfold here/) { exit }
+started {
+    if (sub(/^  computed as far as they go, /, "")) said = $0
+    else said = said " " $0
+    next
+}
+/was not admitted/ { next }
+match($0, /: error: /) {
+    place = substr($0, 1, RSTART - 1)
+    said = substr($0, RSTART + RLENGTH)
+    sub(/:[0-9]+:[0-9]+$/, "", place)
+    if (index(place, from "/") == 1) place = substr(place, length(from) + 2)
+    if (match(said, /^`[^`]*`: /)) {
+        place = place ": " substr(said, 2, RLENGTH - 4)
+        said = substr(said, RLENGTH + 1)
+    }
+    sub(/^computed as far as they go, /, "", said)
+    started = 1
+    next
+}
+/^fn .*does not close/ && open == "" {
+    open = $0
+    sub(/no proof: .*; /, "", open)
+}
+END {
+    if (started) print place ": " told(said)
+    else if (open != "") print start(open, 220)
+}
