@@ -1,7 +1,9 @@
 # The first error in what the prover said of a crate, in one line: the file, the declaration, and what is not so, without
 # line and column, and with long terms cut. Errors that only follow from another ("was not admitted") are passed over. Of
 # two types that differ, the computed ones are shown.
-# usage: awk -v from=FOLDER -f tools/first-error.awk LOG      FOLDER is where the crate stood
+# usage: awk -v from=FOLDER [-v crate=CRATE -v of=FUNCTION] -f tools/first-error.awk LOG
+# FOLDER is where the crate stood. FUNCTION is a path in the crate, as events/exit/undo_all: then errors elsewhere than in
+# its proof are passed over.
 
 # The start of a text, in whole characters.
 function start(text, size) {
@@ -28,7 +30,8 @@ function told(said) {
         sub(/^ *but this has type /, "", found)
         return "expected " start(said, 40) "`, found " start(brief(found), 40) "`"
     }
-    if (said ~ /^`omega`: the goal does not follow/) return "`omega`: the goal does not follow"
+    if (said ~ /^`omega`: .*goal does not follow/) return "`omega`: the goal does not follow"
+    if (said ~ /^`search`: no proof of /) return start(said, 60) "`"
     if (match(said, / ≟ .*: does not hold/)) return ".." substr(said, RSTART, RLENGTH)
     return start(said, 220)
 }
@@ -47,6 +50,7 @@ match($0, /: error: /) {
     said = substr($0, RSTART + RLENGTH)
     sub(/:[0-9]+:[0-9]+$/, "", place)
     if (index(place, from "/") == 1) place = substr(place, length(from) + 2)
+    if (of != "" && index(place, "proofs/" of "/") != 1) next
     if (match(said, /^`[^`]*`: /)) {
         place = place ": " substr(said, 2, RLENGTH - 4)
         said = substr(said, RLENGTH + 1)
@@ -55,7 +59,11 @@ match($0, /: error: /) {
     started = 1
     next
 }
-/^fn .*does not close/ && open == "" {
+BEGIN {
+    name = "fn " crate "::" of ":"
+    gsub(/\//, "::", name)
+}
+/^fn .*does not close/ && open == "" && (of == "" || index($0, name) == 1) {
     open = $0
     sub(/no proof: .*; /, "", open)
 }
