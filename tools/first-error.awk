@@ -1,7 +1,7 @@
 # The first error in what the prover said of a crate, in one line: the file, the declaration, and what is not so, without
 # line and column, and with long terms cut. Errors that only follow from another ("was not admitted") are passed over. Of
 # two types that differ, the computed ones are shown.
-# usage: awk -v from=FOLDER [-v crate=CRATE -v of=FUNCTION] -f tools/first-error.awk LOG
+# usage: LC_ALL=C awk -v from=FOLDER [-v crate=CRATE -v of=FUNCTION] -f tools/first-error.awk LOG
 # FOLDER is where the crate stood. FUNCTION is a path in the crate, as events/exit/undo_all: then errors elsewhere than in
 # its proof are passed over.
 
@@ -13,10 +13,18 @@ function start(text, size) {
     return text " .."
 }
 
-# Without the way back through the steps of a function, and without module names.
+# A term in backticks, cut if it is long.
+function term(text, size) {
+    sub(/` .*/, "`", text)
+    return length(text) <= size ? text : start(text, size) "`"
+}
+
+# Without the way back through the steps of a function, and without module names. A dot before a blank ends no name.
 function brief(text) {
     gsub(/( \.before)+/, " ..", text)
+    gsub(/\. /, "\001", text)
     gsub(/([A-Za-z0-9_]|·|-)+\.([A-Za-z0-9_·-]+\.)*/, "", text)
+    gsub(/\001/, ". ", text)
     gsub(/[ \t]+/, " ", text)
     return text
 }
@@ -28,10 +36,10 @@ function told(said) {
     if (said ~ /^expected type /) {
         sub(/^expected type /, "", said)
         sub(/^ *but this has type /, "", found)
-        return "expected " start(said, 40) "`, found " start(brief(found), 40) "`"
+        return "expected " term(said, 60) ", found " term(brief(found), 60)
     }
     if (said ~ /^`omega`: .*goal does not follow/) return "`omega`: the goal does not follow"
-    if (said ~ /^`search`: no proof of /) return start(said, 60) "`"
+    if (sub(/^`search`: no proof of /, "", said)) return "`search`: no proof of " term(said, 60)
     if (match(said, / ≟ .*: does not hold/)) return ".." substr(said, RSTART, RLENGTH)
     return start(said, 220)
 }
@@ -55,7 +63,7 @@ match($0, /: error: /) {
         place = place ": " substr(said, 2, RLENGTH - 4)
         said = substr(said, RLENGTH + 1)
     }
-    sub(/^computed as far as they go, /, "", said)
+    sub(/^(computed as far as they go|as printed), /, "", said)
     started = 1
     next
 }
