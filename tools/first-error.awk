@@ -73,6 +73,7 @@ BEGIN {
 }
 /^fn .*does not close/ && open == "" && (of == "" || index($0, name) == 1) {
     open = $0
+    sub(/; it calls .*/, "", open)
     sub(/no proof: .*; /, "", open)
 }
 END {
