@@ -40,7 +40,7 @@ function told(said) {
     }
     if (said ~ /^`omega`: .*goal does not follow/) return "`omega`: the goal does not follow"
     if (sub(/^`search`: no proof of /, "", said)) return "`search`: no proof of " term(said, 60)
-    if (match(said, / ≟ .*: does not hold/)) return ".." substr(said, RSTART, RLENGTH)
+    if (match(said, / ≟ .*does not hold/)) return ".. ≟ " term(substr(said, RSTART + length(" ≟ "), RLENGTH), 120) ": does not hold"
     return start(said, 220)
 }
 
