@@ -25,6 +25,7 @@ function brief(text) {
     gsub(/\. /, "\001", text)
     gsub(/([A-Za-z0-9_]|·|-)+\.([A-Za-z0-9_·-]+\.)*/, "", text)
     gsub(/\001/, ". ", text)
+    gsub(/…\[[0-9]+ bytes\]…/, " .. ", text)
     gsub(/[ \t]+/, " ", text)
     return text
 }
