@@ -19,10 +19,10 @@ use Rattle.model.specs.Checks.{identifierOf, slotOf, namesSet, noProcess, aslee
 use Rattle.model.specs.Events.{Result, create, operate, clearNumber, assigned, cut, undoAll, exited, keep, endedWith, doCreate, operated, doOperate, doSetValue, doRemove, treat, treatFrom, touchedFrom, doExit, doQuery, event}
 
 -- one off semaphore 0, and one back
-abbrev take : List ℕ
+abbrev pub take : List ℕ
 take = 0 ∷ 0 ∷ 255 ∷ 255 ∷ 0 ∷ 0 ∷ []
 
-abbrev give : List ℕ
+abbrev pub give : List ℕ
 give = 0 ∷ 0 ∷ 1 ∷ 0 ∷ 0 ∷ 0 ∷ []
 
 -- the results that the definitions give for the three events

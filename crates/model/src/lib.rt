@@ -143,7 +143,7 @@ pub struct Queried {
     pub zero: u32,
     pub increase_mask: u8,
     pub zero_mask: u8,
-    pub looks: usize,
+    pub looks: u32,
 }
 
 // What any event answers.

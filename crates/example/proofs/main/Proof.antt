@@ -1,15 +1,18 @@
 -- `example::main` meets its contract: what each check asks follows from what the events promise, by computing their definitions.
 use mathlib.Core.Path.{_≡_, ap, ap₂, _∙_}
-use mathlib.Core.List.{List}
-use lib.IntN.{ℤ}
+use mathlib.Core.List.{List, [], _∷_}
+use lib.IntN.{ℤ, pos}
 use borrow.Author.Needs.{needs}
 use borrow.Author.Tests.{eq-eqb}
+use Rattle.model.specs.declared.Engine.the-variants.{Quick}
 use Rattle.model.specs.State.{freshState}
+use Rattle.model.specs.Events.{create, operate, doCreate}
 use Rattle.model.specs.Runs.{start}
 use Rattle.host.specs.Parts.{Row}
-use Rattle.host.specs.Holding.{hostOf, hostIn}
-use Rattle.service.specs.After.{After, afterIn, afterOf}
-use Rattle.example.proofs.Events.{created, slept, given, after-create, after-sleep, held, is-created, is-slept, is-given, slept-looks, given-looks, given-wakings}
+use Rattle.host.specs.Holding.{Host, hostOf, hostIn, stateIn}
+use Rattle.service.specs.After.{After, afterIn, afterOf, tells}
+use Rattle.service.specs.Calls.{creates, operates, Called, noCall, andCall}
+use Rattle.example.proofs.Events.{take, give, created, slept, given, after-create, after-sleep, held, is-created, is-slept, is-given, slept-looks, given-looks, given-wakings}
 use Rattle.example.proofs.main.Statement.{statement}
 use Rattle.example.proofs.main.Tie as tie
 
@@ -64,6 +67,20 @@ operate-requires-2 c κs = held after-sleep (host-of (behind-operate (c .before 
 -- behind the second
 behind-operate2 : (c : tie.After-operate2) → let a = c .operate2 in afterIn (a .last .0) (a .last .1 .0) (a .last .1 .1 .0) (a .result) ≡ afterOf given
 behind-operate2 c = is-given (host-of (behind-operate (c .before .before .before .before .before .before .before))) (c .operate2 .ensures)
+
+-- The three are calls in a row, from a fresh host on: what is proved of such (crates/service/proofs/Calls.antt) holds of them.
+called : (c : tie.After-operate2) → let a = c .operate2 in
+    let b = c .before .before .before .before .before .before .before .operate in
+    let d = c .before .before .before .before .before .before .before .before .before .before .before .before .create in
+    Called Quick (hostOf freshState) (create 1 255 255 ∷ operate 1 (pos 0) take ∷ operate 2 (pos 0) give ∷ [])
+    (tells (afterIn (d .last .0) (d .last .1 .0) (d .last .1 .1 .0) (d .result)) ∷ tells (afterIn (b .last .0) (b .last .1 .0) (b .last .1 .1 .0) (b .result)) ∷ tells (afterIn (a .last .0) (a .last .1 .0) (a .last .1 .1 .0) (a .result)) ∷ [])
+called c =
+    let b = c .before .before .before .before .before .before .before in
+    let d = b .before .before .before .before .before in
+    andCall (creates 1 255 255 _ (d .create .ensures ∙ ap (λ (x : Host). afterOf (doCreate (stateIn x) 1 255 255)) (is-fresh (d .before .before .before .before))))
+    (andCall (operates 1 (pos 0) take _ (b .operate .ensures))
+    (andCall (operates 2 (pos 0) give _ (c .operate2 .ensures))
+    noCall))
 
 expect-requires-2 : tie.Need-expect-requires-2
 expect-requires-2 c κs = eq-eqb _ 1 (woken-of (behind-operate2 (c .before)) ∙ given-wakings)
