@@ -16,7 +16,7 @@ use Rattle.runfile.specs.Body.{eventAt, eventsFrom}
 use Rattle.runfile.specs.File.{bad, fileOf, codeOfFile}
 use Rattle.lines.specs.Text.{queryLine, eventLine, lineOf, textOf}
 use Rattle.replaying.specs.Replay.{Stage, firstLine, eventsIn, textOfFile, replayed, startOf, onward, ahead, lastStage}
-use Rattle.replaying.specs.Texts.{LinesAlike, sameLine, otherLooks, TextsAlike, noLine, andLine, RanAll, RanNothing}
+use Rattle.replaying.specs.Texts.{LinesAlike, sameFirst, sameQuery, otherLooks, TextsAlike, noLine, andLine, RanAll, RanNothing}
 use Rattle.replaying.proofs.Turns.{start-events}
 use Rattle.replaying.proofs.Whole.{ahead-onward}
 
@@ -27,7 +27,7 @@ unfolding lineOf
 line-alike position e q p a = go (isQuery e)
   where
     go : (b : Bool) → LinesAlike (cond b (queryLine position (q .answer)) (eventLine position q)) (cond b (queryLine position (p .answer)) (eventLine position p))
-    go true = rw (a .answer) (sameLine (queryLine position (p .answer)))
+    go true = rw (a .answer) (sameQuery position (p .answer .code) (p .answer .value) (p .answer .seen .last) (p .answer .seen .increase) (p .answer .seen .zero))
     go false = rw (a .answer, a .wakings) (otherLooks position (p .answer .code) (p .answer .value) (q .looks) (p .looks) (p .wakings) (a .fewer) (a .bounded))
 
 lines-alike : (position : ℕ) (es : List Event) (qs ps : List Result) → Pairwise Alike qs ps → TextsAlike (textOf position es qs) (textOf position es ps)
@@ -38,7 +38,7 @@ lines-alike position (e ∷ es) qs ps (next {x = q} {y = p} {xs = qs′} {ys = p
 
 pub texts-alike : (file : List ℕ) → TextsAlike (replayed Quick file) (replayed Plain file)
 unfolding textOfFile
-texts-alike file = andLine (sameLine (firstLine (fileOf file))) (lines-alike 0 (eventsIn (fileOf file)) _ _ (engines-agree (eventsIn (fileOf file)) .alike))
+texts-alike file = andLine (sameFirst (fileOf file)) (lines-alike 0 (eventsIn (fileOf file)) _ _ (engines-agree (eventsIn (fileOf file)) .alike))
 
 -- ---- behind the last line
 

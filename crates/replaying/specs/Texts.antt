@@ -10,13 +10,16 @@ use Rattle.model.specs.declared.Waking.{Waking}
 use Rattle.model.specs.State.{freshState}
 use Rattle.model.specs.Runs.{run}
 use Rattle.host.specs.Holding.{hostOf}
-use Rattle.runfile.specs.File.{fileOf}
-use Rattle.lines.specs.Text.{badLine, eventText}
-use Rattle.replaying.specs.Replay.{eventsIn, replayed, Stage, lastStage, begun, textsFrom}
+use Rattle.runfile.specs.File.{File, fileOf}
+use Rattle.lines.specs.Text.{badLine, eventText, queryText}
+use Rattle.replaying.specs.Replay.{firstLine, eventsIn, replayed, Stage, lastStage, begun, textsFrom}
 
--- a line of the quick and of the plain engine: the same, or an event's that differ in the looks alone
+-- a whole line of the quick and of the plain engine: the same first line, the same line of a query, or lines of an event that
+-- differ in the looks alone
 pub data LinesAlike : List ℕ → List ℕ → Type 0 where
-  sameLine : (line : List ℕ) → LinesAlike line line
+  sameFirst : (f : File) → LinesAlike (firstLine f) (firstLine f)
+  sameQuery : (position : ℕ) (code : ℤ) (value last forIncrease forZero : ℕ)
+      → LinesAlike (queryText position code value last forIncrease forZero) (queryText position code value last forIncrease forZero)
   otherLooks : (position : ℕ) (code : ℤ) (value quick plain : ℕ) (wakings : List Waking) → quick ≤ plain → plain ≤ 36
       → LinesAlike (eventText position code value quick wakings) (eventText position code value plain wakings)
 

@@ -48,14 +48,14 @@ module _ (engine : Engine) (x : Host) (k : Held x) (e : Event) (y : Replied) (c 
 -- ---- calls in a row
 
 -- what they leave and return is what the engine's run gives, step by step
-calls-run : (engine : Engine) (x : Host) → Held x → (es : List Event) (ys : List Replied) → Called engine x es ys → ys ≡ repliesOf es (run engine (stateIn x) es .results)
+pub calls-run : (engine : Engine) (x : Host) → Held x → (es : List Event) (ys : List Replied) → Called engine x es ys → ys ≡ repliesOf es (run engine (stateIn x) es .results)
 unfolding run repliesOf
 calls-run engine x k es ys noCall = refl
 calls-run engine x k es ys (andCall {e = e} {es = rest} {y = y} {ys = more} c cs) =
     ap₂ _∷_ (call-is engine x k e y c)
     (rw (state-is engine x k e y c) at (calls-run engine (y .host) (host-held engine x k e y c) rest more cs))
 
-calls-last : (engine : Engine) (x : Host) → Held x → (es : List Event) (ys : List Replied) → Called engine x es ys → lastHost x ys ≡ hostOf (run engine (stateIn x) es .last)
+pub calls-last : (engine : Engine) (x : Host) → Held x → (es : List Event) (ys : List Replied) → Called engine x es ys → lastHost x ys ≡ hostOf (run engine (stateIn x) es .last)
 unfolding run lastHost
 calls-last engine x k es ys noCall = k .holds
 calls-last engine x k es ys (andCall {e = e} {es = rest} {y = y} {ys = more} c cs) =
@@ -103,8 +103,8 @@ calls-agree events quick plain cs ds =
     let q : lastHost (hostOf freshState) quick ≡ hostOf (run Plain freshState events .last) = (rw e at (calls-last Quick _ held-fresh events quick cs)) ∙ ap hostOf (a .last) in
     let p : lastHost (hostOf freshState) plain ≡ hostOf (run Plain freshState events .last) = rw e at (calls-last Plain _ held-fresh events plain ds) in
     record {
-      quickly = rw e at (calls-run Quick _ held-fresh events quick cs);
-      plainly = rw e at (calls-run Plain _ held-fresh events plain ds);
+      quickRun = rw e at (calls-run Quick _ held-fresh events quick cs);
+      plainRun = rw e at (calls-run Plain _ held-fresh events plain ds);
       alike = calls-alike _ held-fresh events quick plain cs ds;
       last = q ∙ sym p;
       ends = q;

@@ -75,8 +75,8 @@ pub record CallsAlike (quick plain : Replied) : Type 0 where
 -- Demand 3, of calls that are the same list of events from a fresh host: what they leave and return is what each engine's run
 -- gives, and the same in both.
 pub record CallsAgree (events : List Event) (quick plain : List Replied) : Type 0 where
-  pub quickly : quick ≡ repliesOf events (run Quick freshState events .results)
-  pub plainly : plain ≡ repliesOf events (run Plain freshState events .results)
+  pub quickRun : quick ≡ repliesOf events (run Quick freshState events .results)
+  pub plainRun : plain ≡ repliesOf events (run Plain freshState events .results)
   pub alike : Pairwise CallsAlike quick plain
   pub last : lastHost (hostOf freshState) quick ≡ lastHost (hostOf freshState) plain
   pub ends : lastHost (hostOf freshState) quick ≡ hostOf (run Plain freshState events .last)
