@@ -127,6 +127,7 @@ pub enum Event {
 
 // What an event tells, beside the wakings in the list that it was lent: its code, its value, its looks, and how many it
 // woke.
+#[repr(C)]
 pub struct Told {
     pub code: i32,
     pub value: u32,
@@ -135,6 +136,7 @@ pub struct Told {
 }
 
 // What a query answers; its looks are 0 like those of every event that wakes nobody. The host stays as it is.
+#[repr(C)]
 pub struct Queried {
     pub code: i32,
     pub value: u16,

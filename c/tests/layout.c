@@ -1,0 +1,180 @@
+/* Holds the sizes, offsets and constants of vairolent.h to those of the archive.
+ *
+ * Sizes are measured: the platform's convention returns a struct of more than 16 bytes by writing it where the first
+ * argument points, so a call into memory filled twice, with different bytes, shows which bytes the archive writes. Offsets
+ * show where answers have another number in every field, constants in what the events accept. */
+#include <errno.h>
+#include <stdio.h>
+#include <string.h>
+#include <sys/sem.h>
+
+#include "vairolent.h"
+
+static int passed, failed;
+
+static void want(const char *what, long long is, long long wanted)
+{
+    if (is == wanted) {
+        passed++;
+        return;
+    }
+    failed++;
+    printf("layout: %s is %lld, not %lld\n", what, is, wanted);
+}
+
+/* The archive's functions as the convention has them. */
+extern void *raw_limits(void *result) __asm__("vairolent_limits");
+extern void *raw_fresh(void *result) __asm__("vairolent_fresh");
+extern void *raw_signal(void *result, uint8_t *, int16_t *, struct vairolent_waking *, uint8_t) __asm__("vairolent_signal_in");
+extern void *raw_query(void *result, const uint8_t *, const int16_t *, int32_t, uint16_t) __asm__("vairolent_query_in");
+
+static struct vairolent_host host;
+
+static void limits_into(void *result) { raw_limits(result); }
+static void fresh_into(void *result) { raw_fresh(result); }
+static void told_into(void *result) { raw_signal(result, host.row, host.adjustments, host.wakings, 1); }
+static void queried_into(void *result) { raw_query(result, host.row, host.adjustments, 0, 0); }
+
+/* The bytes up to the last that a call writes. */
+static long long bytes_of(void (*call)(void *))
+{
+    static unsigned char one[4096], two[4096];
+    memset(one, 0x00, sizeof one);
+    memset(two, 0xff, sizeof two);
+    call(one);
+    call(two);
+    long long end = sizeof one;
+    while (end > 0 && one[end - 1] != two[end - 1])
+        end--;
+    return end;
+}
+
+static void sizes(void)
+{
+    host = vairolent_fresh();
+    want("sizeof (struct vairolent_limits)", sizeof(struct vairolent_limits), bytes_of(limits_into));
+    want("sizeof (struct vairolent_host)", sizeof(struct vairolent_host), bytes_of(fresh_into));
+    want("sizeof (struct vairolent_told)", sizeof(struct vairolent_told), bytes_of(told_into));
+    want("sizeof (struct vairolent_queried)", sizeof(struct vairolent_queried), bytes_of(queried_into));
+    want("sizeof (struct sembuf)", sizeof(struct sembuf), VAIROLENT_OPERATION_BYTES);
+}
+
+static void limits(void)
+{
+    struct vairolent_limits built = vairolent_limits();
+    want("VAIROLENT_SETS", VAIROLENT_SETS, (long long)built.sets);
+    want("VAIROLENT_SEMAPHORES", VAIROLENT_SEMAPHORES, (long long)built.semaphores);
+    want("VAIROLENT_PROCESSES", VAIROLENT_PROCESSES, (long long)built.processes);
+    want("VAIROLENT_OPERATIONS", VAIROLENT_OPERATIONS, (long long)built.operations);
+    want("VAIROLENT_VALUE_MAX", VAIROLENT_VALUE_MAX, (long long)built.value_max);
+    want("VAIROLENT_ROW_BYTES", VAIROLENT_ROW_BYTES, (long long)built.row_bytes);
+    want("VAIROLENT_ADJUSTMENTS", VAIROLENT_ADJUSTMENTS, (long long)built.adjustments);
+    want("the bytes of a row", sizeof host.row, (long long)built.row_bytes);
+    want("the number of adjustments", sizeof host.adjustments / sizeof host.adjustments[0], (long long)built.adjustments);
+    want("the number of wakings", sizeof host.wakings / sizeof host.wakings[0], (long long)built.processes);
+}
+
+static struct vairolent_told operate(uint8_t process, int32_t set, unsigned short number, short amount, short flags)
+{
+    struct sembuf one = {.sem_num = number, .sem_op = amount, .sem_flg = flags};
+    return vairolent_operate(&host, process, set, &one, 1);
+}
+
+/* A fresh host with slot 0 used once before, so that its next set has the identifier 4. */
+static struct vairolent_told again(uint8_t count)
+{
+    host = vairolent_fresh();
+    vairolent_create(&host, 1, VAIROLENT_ALL, VAIROLENT_ALL);
+    vairolent_remove(&host, 0);
+    return vairolent_create(&host, count, VAIROLENT_ALL, VAIROLENT_ALL);
+}
+
+static void offsets_told(void)
+{
+    struct vairolent_told told = again(8);
+    want("a create's value", told.value, 4);
+    told = operate(3, 4, 7, -2, 0);
+    want("the code of a sleeper", told.code, VAIROLENT_ASLEEP);
+    operate(5, 4, 7, -1, SEM_UNDO);
+    told = operate(6, 4, 7, 1, 0);
+    want("code", told.code, 0);
+    want("value", told.value, 0);
+    want("looks", (long long)told.looks, 3);
+    want("woken", (long long)told.woken, 1);
+    want("the waking's process", host.wakings[0].process, 5);
+    want("the waking's code", host.wakings[0].code, 0);
+    operate(5, 4, 0, -1, 0);
+    told = vairolent_remove(&host, 4);
+    want("woken by a removal", (long long)told.woken, 2);
+    want("the first one's code", host.wakings[0].code, EIDRM);
+    want("the second one", host.wakings[1].process, 5);
+    want("the second one's code", host.wakings[1].code, EIDRM);
+    want("the place behind them", host.wakings[2].process, 0);
+}
+
+static void offsets_queried(void)
+{
+    again(2);
+    operate(8, 4, 1, 5, 0);
+    operate(3, 4, 1, -6, 0);
+    operate(4, 4, 1, -7, 0);
+    operate(7, 4, 1, 0, 0);
+    struct vairolent_queried seen = vairolent_query(&host, 4, 1);
+    want("code", seen.code, 0);
+    want("value", seen.value, 5);
+    want("last", seen.last, 8);
+    want("increase", seen.increase, 2);
+    want("zero", seen.zero, 1);
+    want("increase_mask", seen.increase_mask, 12);
+    want("zero_mask", seen.zero_mask, 64);
+    want("looks", seen.looks, 0);
+    want("the code of a refused query", vairolent_query(&host, 4, 2).code, EINVAL);
+}
+
+/* What the limits mean, at their edges. */
+static void edges(void)
+{
+    struct sembuf none[VAIROLENT_OPERATIONS + 1] = {{.sem_num = 0}};
+    host = vairolent_fresh();
+    for (int32_t set = 0; set < VAIROLENT_SETS; set++)
+        want("a create", vairolent_create(&host, VAIROLENT_SEMAPHORES, VAIROLENT_ALL, VAIROLENT_ALL).code, 0);
+    want("a set too many", vairolent_create(&host, 1, VAIROLENT_ALL, VAIROLENT_ALL).code, ENOSPC);
+    want("a semaphore too many", vairolent_create(&host, VAIROLENT_SEMAPHORES + 1, 0, 0).code, EINVAL);
+    want("the last process", vairolent_exit(&host, VAIROLENT_PROCESSES).code, 0);
+    want("a process too many", vairolent_exit(&host, VAIROLENT_PROCESSES + 1).code, ESRCH);
+    want("the most operations", vairolent_operate(&host, 1, 0, none, VAIROLENT_OPERATIONS).code, 0);
+    want("an operation too many", vairolent_operate(&host, 1, 0, none, VAIROLENT_OPERATIONS + 1).code, E2BIG);
+    want("more than memory holds", vairolent_operate(&host, 1, 0, none, SIZE_MAX / 3).code, E2BIG);
+    want("no operations", vairolent_operate(&host, 1, 0, NULL, 0).code, EINVAL);
+    want("half an operation", vairolent_operate_in(host.row, host.adjustments, host.wakings, 1, 0, (uint8_t *)none, 9).code, EINVAL);
+    want("the largest value", vairolent_set_value(&host, 0, 0, VAIROLENT_VALUE_MAX).code, 0);
+    want("a value too large", vairolent_set_value(&host, 0, 0, VAIROLENT_VALUE_MAX + 1).code, ERANGE);
+    want("over the largest value", operate(1, 0, 0, 1, 0).code, ERANGE);
+}
+
+/* The codes by their names in <errno.h>: those that are not above. */
+static void codes(void)
+{
+    host = vairolent_fresh();
+    vairolent_create(&host, 1, 1, 1);
+    want("not permitted", operate(2, 0, 0, 1, 0).code, EACCES);
+    want("a number too high", operate(1, 0, 1, 1, 0).code, EFBIG);
+    want("would sleep", operate(1, 0, 0, -1, IPC_NOWAIT).code, EAGAIN);
+    want("asleep", operate(1, 0, 0, -1, 0).code, VAIROLENT_ASLEEP);
+    want("an operate of a sleeper", operate(1, 0, 0, 1, 0).code, EBUSY);
+    want("no such set", vairolent_remove(&host, 1).code, EINVAL);
+    want("a signal", vairolent_signal(&host, 1).code, 0);
+    want("the code of the interrupted", host.wakings[0].code, EINTR);
+}
+
+int main(void)
+{
+    sizes();
+    limits();
+    offsets_told();
+    offsets_queried();
+    edges();
+    codes();
+    printf("%d passed, %d failed\n", passed, failed);
+    return failed != 0;
+}

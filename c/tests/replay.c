@@ -1,0 +1,145 @@
+/* Replays a run file from standard input through the library, and writes the lines that the proved program replay writes:
+ * the comparison holds the two to each other. */
+#include <inttypes.h>
+#include <stdio.h>
+#include <string.h>
+#include <sys/sem.h>
+
+#include "vairolent.h"
+
+enum { FILE_MAX = 65535, HEAD = 2, ENTRY = 4, BODY_OPERATIONS = 255 };
+enum { CREATE = 1, OPERATE, SET_VALUE, REMOVE, SIGNAL, EXIT, QUERY };
+enum { BAD_TABLE = 201, BAD_OFFSET, BAD_KIND, BAD_BODY };
+
+/* A run file. One byte more than the longest tells that it is too long. */
+static uint8_t file[FILE_MAX + 1];
+static size_t length;
+
+static struct vairolent_host host;
+
+/* The number in so many bytes, little-endian. */
+static uint32_t number_at(const uint8_t *at, int bytes)
+{
+    uint32_t number = 0;
+    for (int i = bytes; i-- > 0;)
+        number = number << 8 | at[i];
+    return number;
+}
+
+static int32_t signed_at(const uint8_t *at)
+{
+    return (int32_t)number_at(at, 4);
+}
+
+static size_t events(void)
+{
+    return number_at(file, HEAD);
+}
+
+static size_t length_of(size_t event)
+{
+    return number_at(file + HEAD + ENTRY * event + 2, 2);
+}
+
+/* What is wrong with a body of at least one byte; 0 if nothing. */
+static int body_code(const uint8_t *body, size_t bytes)
+{
+    static const size_t sizes[] = {0, 4, 7, 11, 5, 2, 2, 7};
+    if (body[0] < CREATE || body[0] > QUERY)
+        return BAD_KIND;
+    size_t size = sizes[body[0]];
+    if (body[0] == OPERATE && bytes >= size)
+        size += VAIROLENT_OPERATION_BYTES * body[6];
+    return bytes == size ? 0 : BAD_BODY;
+}
+
+/* What is wrong with the table, and then with the bodies; 0 if nothing. */
+static int offsets_code(void)
+{
+    size_t end = HEAD + ENTRY * events();
+    for (size_t i = 0; i < events(); i++) {
+        if (number_at(file + HEAD + ENTRY * i, 2) != end)
+            return BAD_OFFSET;
+        end += length_of(i);
+    }
+    return end == length ? 0 : BAD_OFFSET;
+}
+
+static int file_code(void)
+{
+    if (length > FILE_MAX || length < HEAD || length < HEAD + ENTRY * events())
+        return BAD_TABLE;
+    int code = offsets_code();
+    const uint8_t *body = file + HEAD + ENTRY * events();
+    for (size_t i = 0; i < events() && code == 0; i++) {
+        code = length_of(i) == 0 ? BAD_BODY : body_code(body, length_of(i));
+        body += length_of(i);
+    }
+    return code;
+}
+
+/* The operations are copied to where a struct sembuf may lie. */
+static struct vairolent_told operate(const uint8_t *body)
+{
+    struct sembuf operations[BODY_OPERATIONS];
+    memcpy(operations, body + 7, VAIROLENT_OPERATION_BYTES * body[6]);
+    return vairolent_operate(&host, body[1], signed_at(body + 2), operations, body[6]);
+}
+
+/* Any event but a query. */
+static struct vairolent_told tell(const uint8_t *body)
+{
+    switch (body[0]) {
+    case CREATE:
+        return vairolent_create(&host, body[1], body[2], body[3]);
+    case OPERATE:
+        return operate(body);
+    case SET_VALUE:
+        return vairolent_set_value(&host, signed_at(body + 1), (uint16_t)number_at(body + 5, 2), signed_at(body + 7));
+    case REMOVE:
+        return vairolent_remove(&host, signed_at(body + 1));
+    case SIGNAL:
+        return vairolent_signal(&host, body[1]);
+    default:
+        return vairolent_exit(&host, body[1]);
+    }
+}
+
+/* The rest of an event's line, behind its position. */
+static void write_told(struct vairolent_told told)
+{
+    printf(" %" PRId32 " %" PRIu32 " %zu", told.code, told.value, told.looks);
+    for (size_t i = 0; i < told.woken; i++)
+        printf(" %d=%d", host.wakings[i].process, host.wakings[i].code);
+    putchar('\n');
+}
+
+/* .. of a query's. A wait count is the number of ones in its mask. */
+static void write_queried(struct vairolent_queried seen)
+{
+    printf(" %" PRId32 " %d %d %" PRIu32 " %" PRIu32 "\n", seen.code, seen.value, seen.last, seen.increase, seen.zero);
+    if (__builtin_popcount(seen.increase_mask) != (int)seen.increase || __builtin_popcount(seen.zero_mask) != (int)seen.zero)
+        fprintf(stderr, "replay: a wait count is not the number of ones in its mask\n");
+}
+
+int main(void)
+{
+    length = fread(file, 1, sizeof file, stdin);
+    int code = file_code();
+    if (code != 0) {
+        printf("bad %d\n", code);
+        return 0;
+    }
+    printf("events %zu\n", events());
+    host = vairolent_fresh();
+    const uint8_t *body = file + HEAD + ENTRY * events();
+    for (size_t i = 0; i < events(); i++) {
+        printf("%zu", i);
+        if (body[0] == QUERY)
+            write_queried(vairolent_query(&host, signed_at(body + 1), (uint16_t)number_at(body + 5, 2)));
+        else
+            write_told(tell(body));
+        body += length_of(i);
+    }
+    return 0;
+}
