@@ -35,28 +35,53 @@ static void fresh_into(void *result) { raw_fresh(result); }
 static void told_into(void *result) { raw_signal(result, host.row, host.adjustments, host.wakings, 1); }
 static void queried_into(void *result) { raw_query(result, host.row, host.adjustments, 0, 0); }
 
-/* The bytes up to the last that a call writes. */
-static long long bytes_of(void (*call)(void *))
+/* A field of a struct: its first byte, and how many it has. */
+struct field {
+    size_t at;
+    size_t bytes;
+};
+
+#define FIELD(type, name) {offsetof(struct vairolent_##type, name), sizeof((struct vairolent_##type *)0)->name}
+#define FIELDS(fields) fields, sizeof fields / sizeof fields[0]
+
+/* Does a call write the struct: every byte of each field, and up to the end of the last one? */
+static void struct_is(const char *what, size_t size, void (*call)(void *), const struct field *fields, size_t count)
 {
     static unsigned char one[4096], two[4096];
     memset(one, 0x00, sizeof one);
     memset(two, 0xff, sizeof two);
     call(one);
     call(two);
-    long long end = sizeof one;
+    long long end = sizeof one, left = 0;
     while (end > 0 && one[end - 1] != two[end - 1])
         end--;
-    return end;
+    for (size_t i = 0; i < count; i++)
+        for (size_t at = fields[i].at; at < fields[i].at + fields[i].bytes; at++)
+            left += one[at] != two[at];
+    printf("%s: %zu bytes\n", what, size);
+    want("the size", (long long)size, end);
+    want("the end of the last field", (long long)(fields[count - 1].at + fields[count - 1].bytes), end);
+    want("the number of bytes of a field that are not written", left, 0);
 }
 
 static void sizes(void)
 {
+    static const struct field limits[] = {FIELD(limits, sets), FIELD(limits, semaphores), FIELD(limits, processes),
+                                          FIELD(limits, operations), FIELD(limits, value_max),
+                                          FIELD(limits, row_bytes), FIELD(limits, adjustments)};
+    static const struct field hosts[] = {FIELD(host, row), FIELD(host, adjustments), FIELD(host, wakings)};
+    static const struct field told[] = {FIELD(told, code), FIELD(told, value), FIELD(told, looks), FIELD(told, woken)};
+    static const struct field queried[] = {FIELD(queried, code), FIELD(queried, value), FIELD(queried, last),
+                                           FIELD(queried, increase), FIELD(queried, zero),
+                                           FIELD(queried, increase_mask), FIELD(queried, zero_mask),
+                                           FIELD(queried, looks)};
     host = vairolent_fresh();
-    want("sizeof (struct vairolent_limits)", sizeof(struct vairolent_limits), bytes_of(limits_into));
-    want("sizeof (struct vairolent_host)", sizeof(struct vairolent_host), bytes_of(fresh_into));
-    want("sizeof (struct vairolent_told)", sizeof(struct vairolent_told), bytes_of(told_into));
-    want("sizeof (struct vairolent_queried)", sizeof(struct vairolent_queried), bytes_of(queried_into));
-    want("sizeof (struct sembuf)", sizeof(struct sembuf), VAIROLENT_OPERATION_BYTES);
+    struct_is("struct vairolent_limits", sizeof(struct vairolent_limits), limits_into, FIELDS(limits));
+    struct_is("struct vairolent_host", sizeof(struct vairolent_host), fresh_into, FIELDS(hosts));
+    struct_is("struct vairolent_told", sizeof(struct vairolent_told), told_into, FIELDS(told));
+    struct_is("struct vairolent_queried", sizeof(struct vairolent_queried), queried_into, FIELDS(queried));
+    want("the bytes of a struct sembuf", sizeof(struct sembuf), VAIROLENT_OPERATION_BYTES);
+    want("the bytes of a waking", sizeof(struct vairolent_waking), 2);
 }
 
 static void limits(void)
@@ -152,6 +177,22 @@ static void edges(void)
     want("over the largest value", operate(1, 0, 0, 1, 0).code, ERANGE);
 }
 
+/* Which argument is which: a set that process 1 may read and process 2 alter, and an undo. */
+static void arguments(void)
+{
+    host = vairolent_fresh();
+    vairolent_create(&host, 3, 1, 2);
+    want("process 2 alters", operate(2, 0, 2, 5, SEM_UNDO).code, 0);
+    want("process 1 does not", operate(1, 0, 2, 5, 0).code, EACCES);
+    want("process 1 reads", operate(1, 0, 0, 0, 0).code, 0);
+    want("process 2 does not", operate(2, 0, 0, 0, 0).code, EACCES);
+    want("the value", vairolent_query(&host, 0, 2).value, 5);
+    want("its process exits", vairolent_exit(&host, 2).code, 0);
+    want("the value is given back", vairolent_query(&host, 0, 2).value, 0);
+    want("semaphore 1 is set to 7", vairolent_set_value(&host, 0, 1, 7).code, 0);
+    want("the value of semaphore 1", vairolent_query(&host, 0, 1).value, 7);
+}
+
 /* The codes by their names in <errno.h>: those that are not above. */
 static void codes(void)
 {
@@ -174,6 +215,7 @@ int main(void)
     offsets_told();
     offsets_queried();
     edges();
+    arguments();
     codes();
     printf("%d passed, %d failed\n", passed, failed);
     return failed != 0;

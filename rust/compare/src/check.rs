@@ -11,6 +11,8 @@ pub struct Programs {
     pub plain: Program,
     pub second_quick: Program,
     pub second_plain: Program,
+    /// Those that replay through the library, with the quick engine.
+    pub library: Vec<Program>,
 }
 
 /// The texts that all the programs agree on.
@@ -26,6 +28,10 @@ impl Programs {
     /// Runs all of them on the file, one after the other.
     pub fn compare(&self, file: &[u8], feed: Feed) -> Result<Texts, Difference> {
         let quick = agreed(&self.quick, &self.second_quick, file, feed)?;
+        for program in &self.library {
+            let pair = [self.quick.name(), program.name()];
+            same(&pair, &quick, &text_of(program, file, feed)?, file)?;
+        }
         let plain = agreed(&self.plain, &self.second_plain, file, feed)?;
         let pair = [self.quick.name(), self.plain.name()];
         let (left, right) = (without_looks(&quick, file), without_looks(&plain, file));
@@ -36,12 +42,13 @@ impl Programs {
 
 /// The text that two programs both write.
 fn agreed(one: &Program, two: &Program, file: &[u8], feed: Feed) -> Result<Vec<u8>, Difference> {
-    let run = |program: &Program| {
-        program.run(file, feed).map_err(|words| format!("{}: {words}", program.name()))
-    };
-    let (left, right) = (run(one)?, run(two)?);
+    let (left, right) = (text_of(one, file, feed)?, text_of(two, file, feed)?);
     same(&[one.name(), two.name()], &left, &right, file)?;
     Ok(left)
+}
+
+fn text_of(program: &Program, file: &[u8], feed: Feed) -> Result<Vec<u8>, Difference> {
+    program.run(file, feed).map_err(|words| format!("{}: {words}", program.name()))
 }
 
 /// Are the two texts equal? The words show the first line where they aren't.

@@ -31,7 +31,9 @@ use traffic::Files;
 
 const USAGE: &str = "usage:
   compare [--files N] [--seed S] --quick REPLAY --plain REPLAY_PLAIN --second SECOND
-      Runs the programs on files 0 to N-1 of the seed and compares every byte.
+          [--c PROGRAM] [--rust PROGRAM]
+      Runs the programs on files 0 to N-1 of the seed and compares every byte. The last two replay
+      through the library, from C and from Rust: they have to write what REPLAY writes.
   compare generate --kind K [--seed S] [--bytes N] --out FILE
       Writes one file of the kind, filled up to N bytes (65535).
   compare generate --file I [--seed S] --out FILE

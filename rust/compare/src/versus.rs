@@ -21,7 +21,7 @@ struct Seen {
 }
 
 pub fn run(arguments: &[String]) -> Result<End, String> {
-    let known = ["--files", "--seed", "--quick", "--plain", "--second"];
+    let known = ["--files", "--seed", "--quick", "--plain", "--second", "--c", "--rust"];
     let options = Options::parse(arguments, &known)?;
     let (files, seed) = (options.number("--files", FILES)?, options.number("--seed", 1)?);
     let programs = programs(&options)?;
@@ -62,6 +62,11 @@ fn programs(options: &Options) -> Result<Programs, String> {
         plain: program("--plain", &[])?,
         second_quick: program("--second", &[])?,
         second_plain: program("--second", &["--plain"])?,
+        library: ["--c", "--rust"]
+            .iter()
+            .filter(|name| options.text(name).is_some())
+            .map(|name| program(name, &[]))
+            .collect::<Result<_, _>>()?,
     })
 }
 

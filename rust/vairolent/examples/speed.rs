@@ -1,0 +1,123 @@
+//! Measures the events of run files through this package beside the same events in ordinary Rust,
+//! in turn, with nothing read or written between them. What comes out is a table in Markdown.
+
+mod through;
+
+use std::process::ExitCode;
+use std::time::{Duration, Instant};
+
+use second::{Event, RunFile};
+use vairolent::{Answer, Error, Host, Operation, Wakings};
+
+const USAGE: &str = "usage: speed ROUNDS FILE...";
+
+fn main() -> ExitCode {
+    let arguments: Vec<String> = std::env::args().skip(1).collect();
+    match table(&arguments) {
+        Ok(text) => {
+            print!("{text}");
+            ExitCode::SUCCESS
+        }
+        Err(words) => {
+            eprintln!("speed: {words}");
+            ExitCode::FAILURE
+        }
+    }
+}
+
+fn table(arguments: &[String]) -> Result<String, String> {
+    let (rounds, paths) = match arguments {
+        [rounds, paths @ ..] if !paths.is_empty() => (rounds.parse::<u32>().ok(), paths),
+        _ => return Err(USAGE.to_string()),
+    };
+    let rounds = rounds.filter(|&rounds| rounds > 0).ok_or(USAGE)?;
+    let mut text = "| File | Events | library, ns | ordinary Rust, ns | Ratio |\n".to_string();
+    text += "|---|---:|---:|---:|---:|\n";
+    for path in paths {
+        let bytes = std::fs::read(path).map_err(|error| format!("{path}: {error}"))?;
+        let run = RunFile::read(&bytes).map_err(|bad| format!("{path}: bad {}", bad as i32))?;
+        let events: Vec<Handed> = run.events().map(Handed::from).collect();
+        let [library, ordinary] = best(&events, rounds).ok_or(format!("{path}: not alike"))?;
+        let each = |time: Duration| time.as_nanos() as f64 / events.len().max(1) as f64;
+        let (library, ordinary) = (each(library), each(ordinary));
+        let name = path.rsplit('/').next().unwrap_or(path).trim_end_matches(".run");
+        let ratio = library / ordinary;
+        let count = events.len();
+        text += &format!("| {name} | {count} | {library:.0} | {ordinary:.0} | {ratio:.2} |\n");
+    }
+    Ok(text)
+}
+
+/// An event, and its operations as this package takes them.
+struct Handed<'a> {
+    event: Event<'a>,
+    operations: Vec<Operation>,
+}
+
+impl<'a> From<Event<'a>> for Handed<'a> {
+    fn from(event: Event<'a>) -> Handed<'a> {
+        let operations = match event {
+            Event::Operate { operations, .. } => through::operations(operations),
+            _ => Vec::new(),
+        };
+        Handed { event, operations }
+    }
+}
+
+/// The best time of each side; nothing if they ever told something else.
+fn best(events: &[Handed], rounds: u32) -> Option<[Duration; 2]> {
+    let mut best = [Duration::MAX; 2];
+    for _ in 0..rounds {
+        let begin = Instant::now();
+        let mut host = Host::new();
+        let library: i64 = events.iter().map(|handed| by_library(&mut host, handed)).sum();
+        let middle = Instant::now();
+        let mut host = second::Host::new(second::Rule::Quick);
+        let ordinary: i64 = events.iter().map(|handed| by_ordinary(&mut host, handed)).sum();
+        let times = [middle - begin, middle.elapsed()];
+        if library != ordinary {
+            return None;
+        }
+        best = [best[0].min(times[0]), best[1].min(times[1])];
+    }
+    Some(best)
+}
+
+/// Code, value, looks and number of wakings of an event, added up; a query's code and value.
+fn by_library(host: &mut Host, handed: &Handed) -> i64 {
+    let done = |result: Result<Wakings, Error>| match result {
+        Ok(wakings) => (wakings.looks() + wakings.len()) as i64,
+        Err(error) => error.code().into(),
+    };
+    let number = |result: Result<i32, Error>| result.unwrap_or_else(Error::code).into();
+    match handed.event {
+        Event::Create { count, read, alter } => number(host.create(count, read, alter)),
+        Event::Operate { process, identifier, .. } => {
+            match host.operate(process, identifier, &handed.operations) {
+                Ok(Answer::Done(wakings)) => done(Ok(wakings)),
+                Ok(Answer::Asleep) => -1,
+                Err(error) => done(Err(error)),
+            }
+        }
+        Event::SetValue { identifier, number, value } => {
+            done(host.set_value(identifier, number, value))
+        }
+        Event::Remove { identifier } => done(host.remove(identifier)),
+        Event::Signal { process } => done(host.signal(process)),
+        Event::Exit { process } => done(host.exit(process)),
+        Event::Query { identifier, number: at } => {
+            number(host.query(identifier, at).map(|seen| seen.value.into()))
+        }
+    }
+}
+
+/// The same by ordinary Rust.
+fn by_ordinary(host: &mut second::Host, handed: &Handed) -> i64 {
+    match host.handle(&handed.event) {
+        second::Answer::Event(report) => {
+            let looks = i64::from(report.looks) + report.wakings.as_slice().len() as i64;
+            i64::from(report.code) + i64::from(report.value) + looks
+        }
+        second::Answer::Query(state) => i64::from(state.code) + i64::from(state.value),
+    }
+}

@@ -1,0 +1,55 @@
+//! What an operate and a query answer.
+
+use std::fmt;
+
+use crate::codes;
+use crate::wakings::Wakings;
+
+/// What becomes of a call that is not refused.
+#[derive(Clone, Debug, PartialEq, Eq)]
+#[must_use = "a call that is asleep has not done its operations"]
+pub enum Answer {
+    /// All its operations are done, and these sleepers were ended.
+    Done(Wakings),
+    /// Nothing is done. The process sleeps until the wakings of an event list it.
+    Asleep,
+}
+
+/// As in `done (0), 1 look; process 3: done (0)`, or `asleep (-1)`.
+impl fmt::Display for Answer {
+    fn fmt(&self, f: &mut fmt::Formatter) -> fmt::Result {
+        match self {
+            Answer::Done(wakings) => write!(f, "{}, {wakings}", codes::DONE),
+            Answer::Asleep => codes::ASLEEP.fmt(f),
+        }
+    }
+}
+
+/// A semaphore as a query shows it.
+///
+/// A sleeper counts once, at the operation where it now stops: for increase if that amount is
+/// negative, else for zero. Each count is the number of ones in its mask.
+#[derive(Clone, Copy, Debug, PartialEq, Eq, Hash)]
+pub struct Semaphore {
+    /// 0 to 32,767.
+    pub value: u16,
+    /// The process that altered it last by an operation other than zero; 0 if none did.
+    pub last: u8,
+    /// How many wait here for an increase.
+    pub increase: u32,
+    /// How many wait here for zero.
+    pub zero: u32,
+    /// Those who wait for an increase; process p has bit p-1.
+    pub increase_mask: u8,
+    /// Those who wait for zero; process p has bit p-1.
+    pub zero_mask: u8,
+}
+
+/// As in `value 0, last process 2, waiting 1 for increase, 0 for zero`.
+impl fmt::Display for Semaphore {
+    fn fmt(&self, f: &mut fmt::Formatter) -> fmt::Result {
+        let Semaphore { value, last, increase, zero, .. } = self;
+        write!(f, "value {value}, last process {last}, ")?;
+        write!(f, "waiting {increase} for increase, {zero} for zero")
+    }
+}

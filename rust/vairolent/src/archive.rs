@@ -1,0 +1,152 @@
+//! The functions of libvairolent.a, and what they take and give, in the platform's C convention.
+//! They are the exports of `crates/vairolent/src/lib.rt`, where their promises stand.
+//!
+//! Each event has one premise: the row and the adjustments are those of a fresh host, or as the
+//! last event left them. Nothing checks it at run time.
+
+use std::mem::size_of;
+
+use crate::limits::{OPERATIONS, PROCESSES, SEMAPHORES, SETS, VALUE_MAX};
+
+/// All that a host holds but the adjustments.
+pub type Row = [u8; 533];
+
+/// The undo adjustments, of each process for each semaphore.
+pub type Adjustments = [i16; PROCESSES * SETS * SEMAPHORES];
+
+/// The wakings of an event, each a process and its code, with zeros behind them.
+pub type List = [[u8; 2]; PROCESSES];
+
+/// A fresh host.
+#[repr(C)]
+pub struct Fresh {
+    pub row: Row,
+    pub adjustments: Adjustments,
+    _wakings: List,
+}
+
+/// What an event tells, beside the wakings in its list.
+#[repr(C)]
+pub struct Told {
+    pub code: i32,
+    pub value: u32,
+    pub looks: usize,
+    pub woken: usize,
+}
+
+/// What a query answers. Its looks are 0.
+#[repr(C)]
+pub struct Queried {
+    pub code: i32,
+    pub value: u16,
+    pub last: u8,
+    pub increase: u32,
+    pub zero: u32,
+    pub increase_mask: u8,
+    pub zero_mask: u8,
+    _looks: u32,
+}
+
+/// What the archive was built for.
+#[repr(C)]
+#[derive(Debug, PartialEq, Eq)]
+pub struct Limits {
+    pub sets: usize,
+    pub semaphores: usize,
+    pub processes: usize,
+    pub operations: usize,
+    pub value_max: usize,
+    pub row_bytes: usize,
+    pub adjustments: usize,
+}
+
+/// What this package was built for.
+pub const LIMITS: Limits = Limits {
+    sets: SETS,
+    semaphores: SEMAPHORES,
+    processes: PROCESSES,
+    operations: OPERATIONS,
+    value_max: VALUE_MAX as usize,
+    row_bytes: size_of::<Row>(),
+    adjustments: size_of::<Adjustments>() / size_of::<i16>(),
+};
+
+extern "C" {
+    pub fn vairolent_limits() -> Limits;
+
+    pub fn vairolent_fresh() -> Fresh;
+
+    pub fn vairolent_create_in(
+        row: &mut Row,
+        adjustments: &mut Adjustments,
+        wakings: &mut List,
+        count: u8,
+        read: u8,
+        alter: u8,
+    ) -> Told;
+
+    /// The operations are so many bytes, six for each.
+    pub fn vairolent_operate_in(
+        row: &mut Row,
+        adjustments: &mut Adjustments,
+        wakings: &mut List,
+        process: u8,
+        identifier: i32,
+        operations: *const u8,
+        bytes: usize,
+    ) -> Told;
+
+    pub fn vairolent_set_value_in(
+        row: &mut Row,
+        adjustments: &mut Adjustments,
+        wakings: &mut List,
+        identifier: i32,
+        number: u16,
+        value: i32,
+    ) -> Told;
+
+    pub fn vairolent_remove_in(
+        row: &mut Row,
+        adjustments: &mut Adjustments,
+        wakings: &mut List,
+        identifier: i32,
+    ) -> Told;
+
+    pub fn vairolent_signal_in(
+        row: &mut Row,
+        adjustments: &mut Adjustments,
+        wakings: &mut List,
+        process: u8,
+    ) -> Told;
+
+    pub fn vairolent_exit_in(
+        row: &mut Row,
+        adjustments: &mut Adjustments,
+        wakings: &mut List,
+        process: u8,
+    ) -> Told;
+
+    pub fn vairolent_query_in(
+        row: &Row,
+        adjustments: &Adjustments,
+        identifier: i32,
+        number: u16,
+    ) -> Queried;
+}
+
+#[cfg(test)]
+mod tests {
+    use super::*;
+    use crate::limits::ALL;
+
+    #[test]
+    fn the_limits_and_sizes_are_those_of_the_archive() {
+        // SAFETY: it takes nothing, and has no premise.
+        assert_eq!(unsafe { vairolent_limits() }, LIMITS);
+    }
+
+    #[test]
+    fn all_has_a_bit_for_each_process() {
+        assert_eq!(ALL.count_ones() as usize, PROCESSES);
+    }
+}

@@ -1,0 +1,310 @@
+//! The host, and the seven events on it.
+
+use std::fmt;
+use std::mem::size_of_val;
+
+use crate::answers::{Answer, Semaphore};
+use crate::archive::{self, Adjustments, List, Row, Told};
+use crate::codes;
+use crate::error::Error;
+use crate::limits::PROCESSES;
+use crate::operation::Operation;
+use crate::wakings::Wakings;
+
+/// All that the service knows: the sets, the undo adjustments and the sleepers. It is some thousand
+/// bytes in itself, with nothing outside of it.
+///
+/// Only the events change a host, so it is always fresh or as the last event left it. That is the
+/// one premise of what is proved about them, and it holds of a clone too.
+///
+/// Two hosts are equal exactly when they hold the same state. A host is nothing but how it holds
+/// its state, part by part (`crates/host/specs/Holding.antt#Held`), and two rows of bytes that say
+/// the same, part by part, are the same row (`crates/host/proofs/Whole.antt#whole`).
+///
+/// ```
+/// use vairolent::{Host, ALL};
+///
+/// let mut host = Host::new();
+/// let set = host.create(2, ALL, ALL)?;
+/// let before = host.clone();
+/// let _ = host.set_value(set, 0, 5)?;
+/// assert_ne!(host, before);
+/// let _ = host.set_value(set, 0, 0)?;
+/// assert_eq!(host, before);
+/// # Ok::<(), vairolent::Error>(())
+/// ```
+#[derive(Clone, PartialEq, Eq)]
+pub struct Host {
+    row: Row,
+    adjustments: Adjustments,
+}
+
+/// Lends the parts of a host to an event of the archive, with a list for its wakings.
+macro_rules! lend {
+    ($host:ident to $event:ident($($argument:ident),*)) => {{
+        let Host { row, adjustments } = $host;
+        let mut list = [[0; 2]; PROCESSES];
+        // SAFETY: The host is fresh or as the last event left it, since its parts are private and
+        // written here alone. They and the list lie apart, as each is borrowed by itself. An
+        // operate's pointer and bytes are those of a slice that its caller lends.
+        let told = unsafe { archive::$event(row, adjustments, &mut list, $($argument),*) };
+        settled(told, list)
+    }};
+}
+
+/// What an event told, and its wakings; or why it is refused.
+fn settled(told: Told, list: List) -> Result<(Told, Wakings), Error> {
+    Error::check(told.code)?;
+    let wakings = Wakings::new(list, told.woken, told.looks);
+    Ok((told, wakings))
+}
+
+impl Host {
+    /// A fresh host: four free slots, every adjustment at zero, no sleepers.
+    ///
+    /// # Panics
+    ///
+    /// If libvairolent.a was built for other limits than this package.
+    pub fn new() -> Host {
+        // SAFETY: It takes nothing, and has no premise.
+        let limits = unsafe { archive::vairolent_limits() };
+        assert_eq!(limits, archive::LIMITS, "libvairolent.a is of another build than this package");
+        // SAFETY: As above, and the sizes of what it gives are the archive's.
+        let fresh = unsafe { archive::vairolent_fresh() };
+        Host { row: fresh.row, adjustments: fresh.adjustments }
+    }
+
+    /// Makes a set of `count` semaphores at 0 in the lowest free slot, and gives its identifier.
+    ///
+    /// The masks say which processes may read it and alter it; process p has bit p-1.
+    ///
+    /// # Errors
+    ///
+    /// In the order of the checks:
+    ///
+    /// - [`Error::Invalid`]: the count is 0 or over 8.
+    /// - [`Error::NoSlot`]: no slot is free.
+    ///
+    /// ```
+    /// use vairolent::{Error, Host, ALL};
+    ///
+    /// let mut host = Host::new();
+    /// assert_eq!(host.create(8, ALL, 0b0000_0011), Ok(0));
+    /// assert_eq!(host.create(1, ALL, ALL), Ok(1));
+    /// assert_eq!(host.create(9, ALL, ALL), Err(Error::Invalid));
+    /// ```
+    pub fn create(&mut self, count: u8, read: u8, alter: u8) -> Result<i32, Error> {
+        let (told, _) = lend!(self to vairolent_create_in(count, read, alter))?;
+        // A slot and four times a generation, at most 262,143.
+        Ok(told.value as i32)
+    }
+
+    /// Does operations on a set for a process, all at once or not at all.
+    ///
+    /// They are judged in order, on a copy of the set's values and of the process's adjustments;
+    /// the first that stops, or would leave a range, decides. If it stops, the process sleeps, and
+    /// nothing else changes. If none does, the copy becomes the state, and those sleepers of the
+    /// set are looked at whose operations name a semaphore that now has another value.
+    ///
+    /// # Errors
+    ///
+    /// In the order of the checks:
+    ///
+    /// - [`Error::NoProcess`]: the process is not 1 to 8.
+    /// - [`Error::ProcessAsleep`]: the process is asleep.
+    /// - [`Error::Invalid`]: there are no operations.
+    /// - [`Error::TooManyOperations`]: there are over 8 operations.
+    /// - [`Error::Invalid`]: the identifier names no live set.
+    /// - [`Error::NoSemaphore`]: a semaphore number is at or above the set's count.
+    /// - [`Error::NotPermitted`]: the process has no alter bit and an amount is not zero, or it has
+    ///   no read bit and an amount is zero.
+    ///
+    /// Then by the judging, from the operation that decides:
+    ///
+    /// - [`Error::WouldSleep`]: it stops, and has [`Operation::NOWAIT`].
+    /// - [`Error::OutOfRange`]: the value would be over 32,767, or it has [`Operation::UNDO`] and
+    ///   the adjustment would leave -32,767 to 32,767.
+    ///
+    /// ```
+    /// use vairolent::{Answer, Ending, Host, Operation, Waking, ALL};
+    ///
+    /// let mut host = Host::new();
+    /// let set = host.create(1, ALL, ALL)?;
+    /// let take = [Operation::new(0, -1)];
+    /// assert_eq!(host.operate(1, set, &take)?, Answer::Asleep);
+    /// match host.operate(2, set, &[Operation::new(0, 1)])? {
+    ///     Answer::Done(mut wakings) => {
+    ///         assert_eq!(wakings.next(), Some(Waking { process: 1, ending: Ending::Done }));
+    ///     }
+    ///     Answer::Asleep => unreachable!("adding never sleeps"),
+    /// }
+    /// # Ok::<(), vairolent::Error>(())
+    /// ```
+    pub fn operate(
+        &mut self,
+        process: u8,
+        identifier: i32,
+        operations: &[Operation],
+    ) -> Result<Answer, Error> {
+        let bytes = size_of_val(operations);
+        let operations = operations.as_ptr().cast();
+        let (told, wakings) =
+            lend!(self to vairolent_operate_in(process, identifier, operations, bytes))?;
+        Ok(if told.code == codes::ASLEEP.number { Answer::Asleep } else { Answer::Done(wakings) })
+    }
+
+    /// Sets a semaphore to a value, and clears its adjustments for all processes.
+    ///
+    /// Then those sleepers of the set are looked at whose operations name that semaphore, even if
+    /// its value is the same as before. The last process stays.
+    ///
+    /// # Errors
+    ///
+    /// In the order of the checks:
+    ///
+    /// - [`Error::Invalid`]: the identifier names no live set.
+    /// - [`Error::Invalid`]: the number is at or above the set's count.
+    /// - [`Error::OutOfRange`]: the value is not 0 to 32,767.
+    ///
+    /// ```
+    /// use vairolent::{Answer, Host, Operation, ALL};
+    ///
+    /// let mut host = Host::new();
+    /// let set = host.create(1, ALL, ALL)?;
+    /// assert_eq!(host.operate(1, set, &[Operation::new(0, -3)])?, Answer::Asleep);
+    /// assert_eq!(host.set_value(set, 0, 2)?.len(), 0);
+    /// assert_eq!(host.set_value(set, 0, 4)?.len(), 1);
+    /// assert_eq!(host.query(set, 0)?.value, 1);
+    /// # Ok::<(), vairolent::Error>(())
+    /// ```
+    pub fn set_value(
+        &mut self,
+        identifier: i32,
+        number: u16,
+        value: i32,
+    ) -> Result<Wakings, Error> {
+        let (_, wakings) = lend!(self to vairolent_set_value_in(identifier, number, value))?;
+        Ok(wakings)
+    }
+
+    /// Removes a set. Its sleepers are ended with [`Ending::Removed`](crate::Ending::Removed),
+    /// oldest first, without a look; its adjustments are put to zero.
+    ///
+    /// # Errors
+    ///
+    /// - [`Error::Invalid`]: the identifier names no live set.
+    ///
+    /// ```
+    /// use vairolent::{Answer, Ending, Error, Host, Operation, Waking, ALL};
+    ///
+    /// let mut host = Host::new();
+    /// let set = host.create(1, ALL, ALL)?;
+    /// assert_eq!(host.operate(5, set, &[Operation::new(0, -1)])?, Answer::Asleep);
+    /// let mut wakings = host.remove(set)?;
+    /// assert_eq!(wakings.next(), Some(Waking { process: 5, ending: Ending::Removed }));
+    /// assert_eq!(host.remove(set), Err(Error::Invalid));
+    /// # Ok::<(), vairolent::Error>(())
+    /// ```
+    pub fn remove(&mut self, identifier: i32) -> Result<Wakings, Error> {
+        let (_, wakings) = lend!(self to vairolent_remove_in(identifier))?;
+        Ok(wakings)
+    }
+
+    /// Interrupts a process. If it is asleep, its call is ended with
+    /// [`Ending::Interrupted`](crate::Ending::Interrupted), without a look; if it is awake, nothing
+    /// changes.
+    ///
+    /// # Errors
+    ///
+    /// - [`Error::NoProcess`]: the process is not 1 to 8.
+    ///
+    /// ```
+    /// use vairolent::{Answer, Ending, Host, Operation, Waking, ALL};
+    ///
+    /// let mut host = Host::new();
+    /// let set = host.create(1, ALL, ALL)?;
+    /// assert_eq!(host.operate(5, set, &[Operation::new(0, -1)])?, Answer::Asleep);
+    /// let mut wakings = host.signal(5)?;
+    /// assert_eq!(wakings.next(), Some(Waking { process: 5, ending: Ending::Interrupted }));
+    /// assert_eq!(host.signal(5)?.len(), 0);
+    /// # Ok::<(), vairolent::Error>(())
+    /// ```
+    pub fn signal(&mut self, process: u8) -> Result<Wakings, Error> {
+        let (_, wakings) = lend!(self to vairolent_signal_in(process))?;
+        Ok(wakings)
+    }
+
+    /// Ends a process. If it is asleep, its call is taken out without a waking.
+    ///
+    /// Then each of its adjustments is added to its semaphore, cut to 0 to 32,767, and put to zero;
+    /// and in every live set, from slot 0 up, sleepers are looked at as after an operate. The last
+    /// processes stay.
+    ///
+    /// # Errors
+    ///
+    /// - [`Error::NoProcess`]: the process is not 1 to 8.
+    ///
+    /// ```
+    /// use vairolent::{Host, Operation, ALL};
+    ///
+    /// let mut host = Host::new();
+    /// let set = host.create(1, ALL, ALL)?;
+    /// let _ = host.operate(1, set, &[Operation::new(0, 7).undo()])?;
+    /// assert_eq!(host.query(set, 0)?.value, 7);
+    /// assert_eq!(host.exit(1)?.len(), 0);
+    /// assert_eq!(host.query(set, 0)?.value, 0);
+    /// # Ok::<(), vairolent::Error>(())
+    /// ```
+    pub fn exit(&mut self, process: u8) -> Result<Wakings, Error> {
+        let (_, wakings) = lend!(self to vairolent_exit_in(process))?;
+        Ok(wakings)
+    }
+
+    /// Shows a semaphore: its value, its last process, and who waits there.
+    ///
+    /// # Errors
+    ///
+    /// In the order of the checks:
+    ///
+    /// - [`Error::Invalid`]: the identifier names no live set.
+    /// - [`Error::Invalid`]: the number is at or above the set's count.
+    ///
+    /// ```
+    /// use vairolent::{Answer, Host, Operation, ALL};
+    ///
+    /// let mut host = Host::new();
+    /// let set = host.create(1, ALL, ALL)?;
+    /// assert_eq!(host.operate(3, set, &[Operation::new(0, -1)])?, Answer::Asleep);
+    /// let semaphore = host.query(set, 0)?;
+    /// assert_eq!((semaphore.increase, semaphore.increase_mask), (1, 0b0000_0100));
+    /// # Ok::<(), vairolent::Error>(())
+    /// ```
+    pub fn query(&self, identifier: i32, number: u16) -> Result<Semaphore, Error> {
+        let Host { row, adjustments } = self;
+        // SAFETY: The host is fresh or as the last event left it, since its parts are private.
+        let seen = unsafe { archive::vairolent_query_in(row, adjustments, identifier, number) };
+        Error::check(seen.code)?;
+        Ok(Semaphore {
+            value: seen.value,
+            last: seen.last,
+            increase: seen.increase,
+            zero: seen.zero,
+            increase_mask: seen.increase_mask,
+            zero_mask: seen.zero_mask,
+        })
+    }
+}
+
+/// Fresh, as [`Host::new`] gives it.
+impl Default for Host {
+    fn default() -> Host {
+        Host::new()
+    }
+}
+
+/// Short: queries show what a host holds.
+impl fmt::Debug for Host {
+    fn fmt(&self, f: &mut fmt::Formatter) -> fmt::Result {
+        f.debug_struct("Host").finish_non_exhaustive()
+    }
+}

@@ -1,0 +1,58 @@
+//! System V semaphore sets, by a service whose every answer is proved.
+//!
+//! A [`Host`] holds up to four sets of up to eight semaphores, for eight processes. It decides who
+//! sleeps, who wakes, with which code and in which order. It is a library and not a kernel: no event
+//! waits, and a program acts on what its host tells. A process that is asleep is let go on when the
+//! wakings of a later event list it.
+//!
+//! Two predictors write to one table. A semaphore says whether it is free:
+//!
+//! ```
+//! use vairolent::{Answer, Host, Operation, ALL};
+//!
+//! let take = [Operation::new(0, -1).undo()];
+//! let mut host = Host::new();
+//! // A set of one semaphore, for all to read and alter. At 1 it says that the table is free.
+//! let table = host.create(1, ALL, ALL)?;
+//! let _ = host.set_value(table, 0, 1)?;
+//! // Predictor 1 takes the table; predictor 2 has to sleep until it is free.
+//! assert!(matches!(host.operate(1, table, &take)?, Answer::Done(_)));
+//! assert_eq!(host.operate(2, table, &take)?, Answer::Asleep);
+//! // Predictor 1 fails, and its undo gives the table to predictor 2.
+//! let woken: Vec<String> = host.exit(1)?.map(|waking| waking.to_string()).collect();
+//! assert_eq!(woken, ["process 2: done (0)"]);
+//! # Ok::<(), vairolent::Error>(())
+//! ```
+//!
+//! # What is proved
+//!
+//! The events are functions of libvairolent.a, which tools/build-library makes from
+//! `crates/vairolent`. Each is proved to do what the rules say, for every host that is fresh or as
+//! the last event left it, and for all arguments: what it answers, whom it wakes, and every byte of
+//! the host after it. A refused event changes nothing. `docs/RULES.md` leads from each rule to its
+//! definition.
+//!
+//! This package is ordinary Rust, and not proved. It keeps a host's bytes private, so that they are
+//! always as the last event left them, lends them to the archive by the C convention, and turns
+//! codes and bytes into [`Error`], [`Answer`], [`Wakings`] and [`Semaphore`]. All of that is tested.
+
+#![deny(missing_docs)]
+
+#[cfg(not(all(target_arch = "x86_64", target_os = "linux", target_pointer_width = "64")))]
+compile_error!("vairolent: libvairolent.a is for x86-64 Linux alone");
+
+mod answers;
+mod archive;
+mod codes;
+mod error;
+mod host;
+mod limits;
+mod operation;
+mod wakings;
+
+pub use answers::{Answer, Semaphore};
+pub use error::Error;
+pub use host::Host;
+pub use limits::{ALL, OPERATIONS, PROCESSES, SEMAPHORES, SETS, VALUE_MAX};
+pub use operation::Operation;
+pub use wakings::{Ending, Waking, Wakings};

@@ -1,0 +1,19 @@
+//! The service's limits, as `crates/model/specs/Limits.antt` has them.
+
+/// Slots of a host, and so the most sets that are live at once.
+pub const SETS: usize = 4;
+
+/// The most semaphores of a set.
+pub const SEMAPHORES: usize = 8;
+
+/// The number of processes, which are numbered from 1 on.
+pub const PROCESSES: usize = 8;
+
+/// The most operations of one call.
+pub const OPERATIONS: usize = 8;
+
+/// The largest value of a semaphore; the smallest is 0.
+pub const VALUE_MAX: u16 = 32_767;
+
+/// The mask of all processes. In a mask process p has bit p-1.
+pub const ALL: u8 = u8::MAX;

@@ -1,0 +1,106 @@
+//! Whom an event woke, and with which code.
+
+use std::array::IntoIter;
+use std::fmt;
+use std::iter::{FusedIterator, Take};
+
+use crate::archive::List;
+use crate::codes::coded;
+use crate::limits::PROCESSES;
+
+coded! {
+    /// How the call of a sleeper ended.
+    ///
+    /// Each has its number and name on Linux, but for `done`, which is 0.
+    pub enum Ending {
+        /// All its operations are done.
+        Done = DONE,
+        /// EAGAIN: it would sleep now at an operation with IPC_NOWAIT. Its operations are not done.
+        WouldSleep = EAGAIN,
+        /// ERANGE: a value or an adjustment would leave its range. Its operations are not done.
+        OutOfRange = ERANGE,
+        /// EIDRM: its set was removed.
+        Removed = EIDRM,
+        /// EINTR: a signal interrupted it.
+        Interrupted = EINTR,
+    }
+}
+
+/// A sleeper that an event ended.
+#[derive(Clone, Copy, Debug, PartialEq, Eq, Hash)]
+pub struct Waking {
+    /// The process that slept, 1 to 8.
+    pub process: u8,
+    /// How its call ended.
+    pub ending: Ending,
+}
+
+/// The wakings of an event, in the order in which the sleepers were ended.
+///
+/// Two are equal if they have the same looks and the same wakings to come.
+#[derive(Clone)]
+#[must_use = "each waking is a process that sleeps until it is told"]
+pub struct Wakings {
+    rest: Take<IntoIter<[u8; 2], PROCESSES>>,
+    looks: usize,
+}
+
+impl Wakings {
+    /// The first so many of a list.
+    pub(crate) fn new(list: List, woken: usize, looks: usize) -> Wakings {
+        Wakings { rest: list.into_iter().take(woken), looks }
+    }
+
+    /// The looks of the event: how many times it judged a sleeper. Taking wakings out does not
+    /// change them.
+    pub fn looks(&self) -> usize {
+        self.looks
+    }
+}
+
+impl Iterator for Wakings {
+    type Item = Waking;
+
+    fn next(&mut self) -> Option<Waking> {
+        let [process, code] = self.rest.next()?;
+        Some(Waking { process, ending: Ending::with_code(code.into()) })
+    }
+
+    fn size_hint(&self) -> (usize, Option<usize>) {
+        self.rest.size_hint()
+    }
+}
+
+impl ExactSizeIterator for Wakings {}
+
+impl FusedIterator for Wakings {}
+
+impl PartialEq for Wakings {
+    fn eq(&self, other: &Wakings) -> bool {
+        self.looks == other.looks && Iterator::eq(self.clone(), other.clone())
+    }
+}
+
+impl Eq for Wakings {}
+
+impl fmt::Debug for Wakings {
+    fn fmt(&self, f: &mut fmt::Formatter) -> fmt::Result {
+        let rest: Vec<Waking> = self.clone().collect();
+        f.debug_struct("Wakings").field("looks", &self.looks).field("rest", &rest).finish()
+    }
+}
+
+/// As in `2 looks; process 3: done (0)`.
+impl fmt::Display for Wakings {
+    fn fmt(&self, f: &mut fmt::Formatter) -> fmt::Result {
+        write!(f, "{} {}", self.looks, if self.looks == 1 { "look" } else { "looks" })?;
+        self.clone().try_for_each(|waking| write!(f, "; {waking}"))
+    }
+}
+
+/// As in `process 3: done (0)`.
+impl fmt::Display for Waking {
+    fn fmt(&self, f: &mut fmt::Formatter) -> fmt::Result {
+        write!(f, "process {}: {}", self.process, self.ending)
+    }
+}

@@ -1,0 +1,104 @@
+//! Every ending of a sleeper, from every event that wakes.
+
+use vairolent::{Answer, Ending, Error, Host, Operation, Wakings, VALUE_MAX};
+
+use crate::{sleep, with_set};
+
+const ADD: Operation = Operation::new(0, 1);
+const TAKE: Operation = Operation::new(0, -1);
+
+fn listed(wakings: Wakings) -> Vec<(u8, Ending)> {
+    wakings.map(|waking| (waking.process, waking.ending)).collect()
+}
+
+/// An operate that is done.
+fn done(host: &mut Host, process: u8, set: i32, operations: &[Operation]) -> Wakings {
+    match host.operate(process, set, operations) {
+        Ok(Answer::Done(wakings)) => wakings,
+        other => panic!("not done: {other:?}"),
+    }
+}
+
+#[test]
+fn done_by_an_operate() {
+    let (mut host, set) = with_set(1);
+    sleep(&mut host, set, &[4, 2, 8], &[TAKE]);
+    let wakings = done(&mut host, 1, set, &[Operation::new(0, 2)]);
+    // Both who are finished change the value, so that the last one is judged.
+    assert_eq!(wakings.looks(), 3);
+    assert_eq!(listed(wakings), [(4, Ending::Done), (2, Ending::Done)]);
+    assert_eq!(done(&mut host, 1, set, &[ADD, TAKE]).looks(), 0);
+}
+
+#[test]
+fn done_by_a_set_value_for_all_eight() {
+    let (mut host, set) = with_set(1);
+    let sleepers = [8, 1, 7, 2, 6, 3, 5, 4];
+    sleep(&mut host, set, &sleepers, &[TAKE]);
+    let wakings = host.set_value(set, 0, 8).expect("set");
+    assert_eq!((wakings.len(), wakings.looks()), (8, 8));
+    assert_eq!(listed(wakings), sleepers.map(|process| (process, Ending::Done)));
+    assert_eq!(host.query(set, 0).map(|semaphore| semaphore.last), Ok(4));
+}
+
+#[test]
+fn done_by_an_exit() {
+    let (mut host, set) = with_set(2);
+    let hold = Operation::new(1, 1).undo();
+    assert_eq!(done(&mut host, 1, set, &[hold]).len(), 0);
+    sleep(&mut host, set, &[1], &[TAKE]);
+    sleep(&mut host, set, &[2], &[Operation::new(1, 0)]);
+    // Process 1 is taken out without a waking.
+    let wakings = host.exit(1).expect("ended");
+    assert_eq!(wakings.looks(), 1);
+    assert_eq!(listed(wakings), [(2, Ending::Done)]);
+    assert_eq!(host.signal(1).map(listed), Ok(vec![]));
+}
+
+#[test]
+fn refused_while_asleep() {
+    let (mut host, set) = with_set(2);
+    sleep(&mut host, set, &[1], &[TAKE, Operation::new(1, 0).nowait()]);
+    sleep(&mut host, set, &[2], &[TAKE, Operation::new(1, 1)]);
+    assert_eq!(host.set_value(set, 1, VALUE_MAX.into()).map(listed), Ok(vec![]));
+    let wakings = done(&mut host, 3, set, &[ADD]);
+    assert_eq!(wakings.looks(), 2);
+    assert_eq!(listed(wakings), [(1, Ending::WouldSleep), (2, Ending::OutOfRange)]);
+    assert_eq!(host.query(set, 0).map(|semaphore| semaphore.value), Ok(1));
+}
+
+#[test]
+fn removed_oldest_first() {
+    let (mut host, set) = with_set(1);
+    sleep(&mut host, set, &[6, 1, 3], &[TAKE]);
+    let wakings = host.remove(set).expect("removed");
+    assert_eq!(wakings.looks(), 0);
+    let wanted = [6, 1, 3].map(|process| (process, Ending::Removed));
+    assert_eq!(listed(wakings), wanted);
+    assert_eq!(host.remove(set), Err(Error::Invalid));
+}
+
+#[test]
+fn interrupted_once() {
+    let (mut host, set) = with_set(1);
+    sleep(&mut host, set, &[5], &[TAKE]);
+    assert_eq!(host.signal(5).map(listed), Ok(vec![(5, Ending::Interrupted)]));
+    assert_eq!(host.signal(5).map(listed), Ok(vec![]));
+}
+
+#[test]
+fn wakings_are_counted_and_compared_by_what_is_left() {
+    let (mut host, set) = with_set(1);
+    sleep(&mut host, set, &[1, 2], &[TAKE]);
+    let mut other = host.clone();
+    let mut wakings = host.remove(set).expect("removed");
+    assert_eq!((wakings.len(), wakings.looks()), (2, 0));
+    let whole = wakings.clone();
+    assert_eq!(wakings.next().map(|waking| waking.process), Some(1));
+    assert_ne!(wakings, whole);
+    // The other host has process 2 alone to wake.
+    assert_eq!(other.signal(1).map(listed), Ok(vec![(1, Ending::Interrupted)]));
+    assert_eq!(Ok(wakings.clone()), other.remove(set));
+    assert_eq!(wakings.next().map(|waking| waking.process), Some(2));
+    assert_eq!((wakings.len(), wakings.next(), wakings.next()), (0, None, None));
+}

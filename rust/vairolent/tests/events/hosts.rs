@@ -1,0 +1,88 @@
+//! Hosts as values, identifiers, and what a query shows.
+
+use vairolent::{Answer, Host, Operation, Semaphore, ALL};
+
+use crate::{sleep, with_set};
+
+#[test]
+fn equal_when_the_state_is_the_same() {
+    assert_eq!(Host::new(), Host::default());
+    let (mut host, set) = with_set(2);
+    let before = host.clone();
+    sleep(&mut host, set, &[3], &[Operation::new(1, -1)]);
+    assert_ne!(host, before);
+    assert!(host.exit(3).is_ok());
+    assert_eq!(host, before);
+    // A removed set leaves its slot with another generation.
+    assert!(host.remove(set).is_ok());
+    assert_ne!(host, Host::new());
+}
+
+#[test]
+fn a_clone_goes_its_own_way() {
+    let (mut host, set) = with_set(1);
+    let mut copy = host.clone();
+    let add = [Operation::new(0, 1)];
+    assert!(matches!(copy.operate(1, set, &add), Ok(Answer::Done(_))));
+    assert_eq!(host.query(set, 0).map(|semaphore| semaphore.value), Ok(0));
+    assert!(matches!(host.operate(1, set, &add), Ok(Answer::Done(_))));
+    assert_eq!(host, copy);
+}
+
+#[test]
+fn a_host_goes_to_other_threads() {
+    fn goes<T: Send + Sync + 'static>(_: &T) {}
+    goes(&Host::new());
+}
+
+#[test]
+fn every_number_of_a_query() {
+    let (mut host, set) = with_set(3);
+    assert!(matches!(host.operate(8, set, &[Operation::new(2, 300)]), Ok(Answer::Done(_))));
+    sleep(&mut host, set, &[1, 4], &[Operation::new(2, -301)]);
+    sleep(&mut host, set, &[2, 3, 7], &[Operation::new(2, 0)]);
+    sleep(&mut host, set, &[5], &[Operation::new(2, -1), Operation::new(0, -1)]);
+    let wanted = Semaphore {
+        value: 300,
+        last: 8,
+        increase: 2,
+        zero: 3,
+        increase_mask: 0b0000_1001,
+        zero_mask: 0b0100_0110,
+    };
+    assert_eq!(host.query(set, 2), Ok(wanted));
+    let wanted = Semaphore {
+        value: 0,
+        last: 0,
+        increase: 1,
+        zero: 0,
+        increase_mask: 0b0001_0000,
+        zero_mask: 0,
+    };
+    assert_eq!(host.query(set, 0), Ok(wanted));
+}
+
+#[test]
+fn flags_other_than_the_two_are_ignored() {
+    let (mut host, set) = with_set(1);
+    let others = !(Operation::NOWAIT | Operation::UNDO);
+    sleep(&mut host, set, &[1], &[Operation { number: 0, amount: i16::MIN, flags: others }]);
+    let both = Operation::new(0, 1).undo().nowait();
+    assert_eq!(both.flags, Operation::UNDO | Operation::NOWAIT);
+    assert!(matches!(host.operate(2, set, &[both]), Ok(Answer::Done(_))));
+    assert!(host.exit(2).is_ok());
+    assert_eq!(host.query(set, 0).map(|semaphore| semaphore.value), Ok(0));
+}
+
+#[test]
+fn identifiers_go_round() {
+    let mut host = Host::new();
+    for slot in 0..4 {
+        assert_eq!(host.create(1, ALL, ALL), Ok(slot));
+    }
+    for generation in 0..=65_535 {
+        assert!(host.remove(3 + 4 * generation).is_ok());
+        let next = (generation + 1) % 65_536;
+        assert_eq!(host.create(1, ALL, ALL), Ok(3 + 4 * next));
+    }
+}

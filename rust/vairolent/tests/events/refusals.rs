@@ -1,0 +1,125 @@
+//! Every refusal of every event, and that it changes nothing.
+
+use std::fmt::Debug;
+
+use vairolent::{Answer, Error, Host, Operation, ALL, VALUE_MAX};
+
+use crate::{sleep, with_set};
+
+/// Numbers that name no live set where set 0 is the only one.
+const NO_SETS: [i32; 6] = [1, 4, 262_144, i32::MAX, -1, i32::MIN];
+
+const ADD: Operation = Operation::new(0, 1);
+const TAKE: Operation = Operation::new(0, -1);
+const ZERO: Operation = Operation::new(0, 0);
+
+fn refused<T, E>(host: &mut Host, wanted: Error, event: E)
+where
+    T: Debug + PartialEq,
+    E: FnOnce(&mut Host) -> Result<T, Error>,
+{
+    let before = host.clone();
+    assert_eq!(event(host), Err(wanted));
+    assert_eq!(*host, before, "{wanted}");
+}
+
+#[test]
+fn create() {
+    let mut host = Host::new();
+    for wanted in 0..4 {
+        assert_eq!(host.create(8, ALL, ALL), Ok(wanted));
+    }
+    for count in [0, 9, u8::MAX] {
+        refused(&mut host, Error::Invalid, |host| host.create(count, ALL, ALL));
+    }
+    refused(&mut host, Error::NoSlot, |host| host.create(1, ALL, ALL));
+}
+
+/// Each call has every fault that is asked for later, too.
+#[test]
+fn operate_by_its_checks() {
+    let mut host = Host::new();
+    let set = host.create(2, 0b011, 0b010).expect("a slot is free");
+    sleep(&mut host, set, &[2], &[TAKE]);
+    let far = Operation::new(2, 1);
+    for process in [0, 9, u8::MAX] {
+        refused(&mut host, Error::NoProcess, |host| host.operate(process, 9, &[]));
+    }
+    refused(&mut host, Error::ProcessAsleep, |host| host.operate(2, 9, &[]));
+    refused(&mut host, Error::Invalid, |host| host.operate(1, 9, &[]));
+    for length in [9, 1_000] {
+        let many = vec![far; length];
+        refused(&mut host, Error::TooManyOperations, |host| host.operate(1, 9, &many));
+    }
+    for none in NO_SETS {
+        refused(&mut host, Error::Invalid, |host| host.operate(1, none, &[far]));
+    }
+    for number in [2, 8, u16::MAX] {
+        let operations = [ADD, Operation::new(number, 0)];
+        refused(&mut host, Error::NoSemaphore, |host| host.operate(1, set, &operations));
+    }
+    refused(&mut host, Error::NotPermitted, |host| host.operate(1, set, &[TAKE.nowait()]));
+}
+
+#[test]
+fn operate_by_the_masks() {
+    let mut host = Host::new();
+    let set = host.create(1, 0b011, 0b110).expect("a slot is free");
+    refused(&mut host, Error::NotPermitted, |host| host.operate(1, set, &[ADD]));
+    refused(&mut host, Error::NotPermitted, |host| host.operate(1, set, &[ZERO, ADD]));
+    refused(&mut host, Error::NotPermitted, |host| host.operate(3, set, &[ZERO]));
+    refused(&mut host, Error::NotPermitted, |host| host.operate(3, set, &[ZERO, ADD]));
+    for (process, operations) in [(1, &[ZERO][..]), (3, &[ADD, TAKE]), (2, &[ZERO, ADD])] {
+        assert!(matches!(host.operate(process, set, operations), Ok(Answer::Done(_))));
+    }
+}
+
+#[test]
+fn operate_by_its_judging() {
+    let (mut host, set) = with_set(2);
+    let other = Operation::new(1, 5);
+    let would_sleep = [other, TAKE.nowait()];
+    refused(&mut host, Error::WouldSleep, |host| host.operate(1, set, &would_sleep));
+    let value_over = [other, Operation::new(0, i16::MAX), ADD];
+    refused(&mut host, Error::OutOfRange, |host| host.operate(1, set, &value_over));
+    let up = Operation::new(0, i16::MAX).undo();
+    let adjustment_under = [up, Operation::new(0, -i16::MAX), ADD.undo()];
+    refused(&mut host, Error::OutOfRange, |host| host.operate(1, set, &adjustment_under));
+}
+
+#[test]
+fn set_value() {
+    let (mut host, set) = with_set(2);
+    for none in NO_SETS {
+        refused(&mut host, Error::Invalid, |host| host.set_value(none, 2, -1));
+    }
+    for number in [2, 8, u16::MAX] {
+        refused(&mut host, Error::Invalid, |host| host.set_value(set, number, -1));
+    }
+    for value in [-1, i32::from(VALUE_MAX) + 1, 65_536, i32::MIN, i32::MAX] {
+        refused(&mut host, Error::OutOfRange, |host| host.set_value(set, 1, value));
+    }
+    assert!(host.set_value(set, 1, VALUE_MAX.into()).is_ok());
+    assert_eq!(host.query(set, 1).map(|semaphore| semaphore.value), Ok(VALUE_MAX));
+}
+
+#[test]
+fn remove_and_query() {
+    let (mut host, set) = with_set(2);
+    for none in NO_SETS {
+        refused(&mut host, Error::Invalid, |host| host.remove(none));
+        refused(&mut host, Error::Invalid, |host| host.query(none, 0));
+    }
+    for number in [2, 8, u16::MAX] {
+        refused(&mut host, Error::Invalid, |host| host.query(set, number));
+    }
+}
+
+#[test]
+fn signal_and_exit() {
+    let (mut host, _) = with_set(1);
+    for process in [0, 9, u8::MAX] {
+        refused(&mut host, Error::NoProcess, |host| host.signal(process));
+        refused(&mut host, Error::NoProcess, |host| host.exit(process));
+    }
+}

@@ -1,0 +1,77 @@
+//! What is written of errors, endings, answers and hosts.
+
+use std::error;
+
+use vairolent::{Answer, Ending, Error, Host, Operation};
+
+use crate::{sleep, with_set};
+
+#[test]
+fn errors() {
+    let all = [
+        (Error::NoProcess, "ESRCH (3): no such process"),
+        (Error::ProcessAsleep, "EBUSY (16): the process is asleep"),
+        (Error::Invalid, "EINVAL (22): no such set, or a bad argument"),
+        (Error::TooManyOperations, "E2BIG (7): over 8 operations"),
+        (Error::NoSemaphore, "EFBIG (27): a semaphore number is at or above the set's count"),
+        (Error::NotPermitted, "EACCES (13): not permitted"),
+        (Error::NoSlot, "ENOSPC (28): no slot is free"),
+        (Error::WouldSleep, "EAGAIN (11): an operation with IPC_NOWAIT would sleep"),
+        (Error::OutOfRange, "ERANGE (34): a value or an adjustment would leave its range"),
+    ];
+    for (error, wanted) in all {
+        assert_eq!(error.to_string(), wanted);
+        assert!(wanted.starts_with(&format!("{} ({}): ", error.name(), error.code())));
+    }
+    let boxed: Box<dyn error::Error + Send + Sync> = Error::NoSlot.into();
+    assert_eq!(boxed.to_string(), "ENOSPC (28): no slot is free");
+}
+
+#[test]
+fn endings() {
+    let all = [
+        (Ending::Done, "done (0)"),
+        (Ending::WouldSleep, "EAGAIN (11): an operation with IPC_NOWAIT would sleep"),
+        (Ending::OutOfRange, "ERANGE (34): a value or an adjustment would leave its range"),
+        (Ending::Removed, "EIDRM (43): its set was removed"),
+        (Ending::Interrupted, "EINTR (4): a signal interrupted it"),
+    ];
+    for (ending, wanted) in all {
+        assert_eq!(ending.to_string(), wanted);
+        assert!(wanted.starts_with(&format!("{} ({})", ending.name(), ending.code())));
+    }
+}
+
+#[test]
+fn answers_and_wakings() {
+    let (mut host, set) = with_set(1);
+    let take = [Operation::new(0, -1)];
+    let text = |answer: Result<Answer, Error>| answer.map(|answer| answer.to_string());
+    assert_eq!(text(host.operate(3, set, &take)), Ok("asleep (-1)".into()));
+    sleep(&mut host, set, &[2, 4], &take);
+    let wanted = "done (0), 3 looks; process 3: done (0)";
+    assert_eq!(text(host.operate(1, set, &[Operation::new(0, 1)])), Ok(wanted.into()));
+    let wakings = host.remove(set).expect("removed");
+    let wanted = "0 looks; process 2: EIDRM (43): its set was removed; \
+                  process 4: EIDRM (43): its set was removed";
+    assert_eq!(wakings.to_string(), wanted);
+    let wanted = "Wakings { looks: 0, rest: [Waking { process: 2, ending: Removed }, \
+                  Waking { process: 4, ending: Removed }] }";
+    assert_eq!(format!("{wakings:?}"), wanted);
+}
+
+#[test]
+fn one_look_and_a_query() {
+    let (mut host, set) = with_set(1);
+    sleep(&mut host, set, &[5], &[Operation::new(0, -2)]);
+    let answer = host.operate(6, set, &[Operation::new(0, 1)]).expect("done");
+    assert_eq!(answer.to_string(), "done (0), 1 look");
+    let semaphore = host.query(set, 0).expect("seen");
+    let wanted = "value 1, last process 6, waiting 1 for increase, 0 for zero";
+    assert_eq!(semaphore.to_string(), wanted);
+}
+
+#[test]
+fn a_host_in_short() {
+    assert_eq!(format!("{:?}", Host::new()), "Host { .. }");
+}
