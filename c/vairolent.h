@@ -1,9 +1,9 @@
 /* Vairolent: a service for System V semaphore sets whose every answer is proved.
  *
- * It is a library, not a kernel. The caller keeps a host and hands it to each of seven events (create, operate, set value,
- * remove, signal, exit, query); an event tells who sleeps, who is woken, with which code and in which order, and the caller
- * acts on it. No function waits, allocates, calls the system or keeps anything of its own. Two threads that share a host
- * take turns by a lock of their own.
+ * It is a library, not a kernel. The caller keeps a host and hands it to each of seven events (create, operate, set
+ * value, remove, signal, exit, query); an event tells who sleeps, who is woken, with which code and in which order,
+ * and the caller acts on it. No function waits, allocates, calls the system or keeps anything of its own. Two
+ * threads that share a host take turns by a lock of their own.
  *
  * Link with libvairolent.a. An answer's code is 0 (done), VAIROLENT_ASLEEP, or a number that <errno.h> names. */
 #ifndef VAIROLENT_H
@@ -33,18 +33,19 @@ enum {
     VAIROLENT_ADJUSTMENTS = 256    /* the undo adjustments of a host */
 };
 
-/* A sleeper that an event ended, and with which code: 0 its array was done; EAGAIN, an operation that has to sleep has
- * IPC_NOWAIT; ERANGE, a value or an adjustment would leave its range; EIDRM, its set was removed; EINTR, a signal. */
+/* A sleeper that an event ended, and with which code: 0 its array was done; EAGAIN, an operation that has to sleep
+ * has IPC_NOWAIT; ERANGE, a value or an adjustment would leave its range; EIDRM, its set was removed; EINTR, a
+ * signal. */
 struct vairolent_waking {
     uint8_t process;
     uint8_t code;
 };
 
-/* All that the service holds: the sets and their sleepers in a row of bytes, the undo adjustments, and the wakings of the
- * last event.
+/* All that the service holds: the sets and their sleepers in a row of bytes, the undo adjustments, and the wakings
+ * of the last event.
  *
- * The premise of every event: the host handed in is as vairolent_fresh or the last event left it, byte for byte; nothing
- * checks that when the program runs, and of any other host nothing is promised. A copy of a host is a host. */
+ * The premise of every event: the host handed in is as vairolent_fresh or the last event left it, byte for byte;
+ * nothing checks that when the program runs, and of any other host nothing is promised. A copy of a host is a host. */
 struct vairolent_host {
     uint8_t row[VAIROLENT_ROW_BYTES];
     int16_t adjustments[VAIROLENT_ADJUSTMENTS];
@@ -91,42 +92,33 @@ struct vairolent_limits vairolent_limits(void);
 /* A fresh host: four free slots, every number and adjustment 0, no sleepers. */
 struct vairolent_host vairolent_fresh(void);
 
-/* The seven events on the parts of a host, which lie apart from each other and from the operations. These are the functions
- * of the archive, whose promises are proved; the functions behind them take a whole host, and say the rules. */
+/* The seven events. Each has a function of the archive, NAME_in, whose promise is proved; it takes the parts of a host,
+ * which lie apart from each other and from the operations. NAME takes a whole host and hands its parts on. */
+
+/* Makes a set of 1 to 8 semaphores with value 0 in the lowest free slot. The masks say which processes may read it
+ * (an operation with amount 0) and alter it (any other). The value told is its identifier: slot + 4 x generation,
+ * where the slot's generation goes up by one at each removal.
+ * Refused, the first that applies: EINVAL count 0 or over 8; ENOSPC no free slot. */
 struct vairolent_told vairolent_create_in(uint8_t *row, int16_t *adjustments, struct vairolent_waking *wakings,
                                           uint8_t count, uint8_t read, uint8_t alter);
-struct vairolent_told vairolent_operate_in(uint8_t *row, int16_t *adjustments, struct vairolent_waking *wakings,
-                                           uint8_t process, int32_t identifier, const uint8_t *operations, size_t bytes);
-struct vairolent_told vairolent_set_value_in(uint8_t *row, int16_t *adjustments, struct vairolent_waking *wakings,
-                                             int32_t identifier, uint16_t number, int32_t value);
-struct vairolent_told vairolent_remove_in(uint8_t *row, int16_t *adjustments, struct vairolent_waking *wakings,
-                                          int32_t identifier);
-struct vairolent_told vairolent_signal_in(uint8_t *row, int16_t *adjustments, struct vairolent_waking *wakings,
-                                          uint8_t process);
-struct vairolent_told vairolent_exit_in(uint8_t *row, int16_t *adjustments, struct vairolent_waking *wakings,
-                                        uint8_t process);
-struct vairolent_queried vairolent_query_in(const uint8_t *row, const int16_t *adjustments, int32_t identifier,
-                                            uint16_t number);
-
-/* Makes a set of 1 to 8 semaphores with value 0 in the lowest free slot. The masks say which processes may read it (an
- * operation with amount 0) and alter it (any other). The value told is its identifier: slot + 4 x generation, where the
- * slot's generation goes up by one at each removal.
- * Refused, the first that applies: EINVAL count 0 or over 8; ENOSPC no free slot. */
 static inline struct vairolent_told vairolent_create(struct vairolent_host *host, uint8_t count, uint8_t read,
                                                      uint8_t alter)
 {
     return vairolent_create_in(host->row, host->adjustments, host->wakings, count, read, alter);
 }
 
-/* An array of operations of a process at a set, done as a whole or not at all, as semop does it. Each operation is judged on
- * what those before it leave: an amount above 0 is added to the value; one below 0 is taken from it, and stops where the
- * value is smaller; 0 stops where the value is not 0. With SEM_UNDO the amount is also subtracted from the process's undo
- * adjustment. The first operation that stops, or gives ERANGE, decides: where it stops the process sleeps
- * (VAIROLENT_ASLEEP) and nothing else changes. If none does the array is done, and sleepers of the set who can go on are
- * woken.
+/* An array of operations of a process at a set, done as a whole or not at all, as semop does it. Each operation is
+ * judged on what those before it leave: an amount above 0 is added to the value; one below 0 is taken from it, and
+ * stops where the value is smaller; 0 stops where the value is not 0. With SEM_UNDO the amount is also subtracted
+ * from the process's undo adjustment. The first operation that stops, or gives ERANGE, decides: where it stops the
+ * process sleeps (VAIROLENT_ASLEEP) and nothing else changes. If none does the array is done; then the set's
+ * sleepers are judged again, oldest first, and those who finish are woken.
  * Refused, the first that applies: ESRCH process not 1 to 8; EBUSY it is asleep; EINVAL no operations; E2BIG over 8;
- * EINVAL no such set; EFBIG a number at or above the set's count; EACCES not permitted; then as the deciding operation
- * has it: EAGAIN it stops and has IPC_NOWAIT; ERANGE a value or an adjustment would leave its range. */
+ * EINVAL no such set; EFBIG a number at or above the set's count; EACCES not permitted; then as the deciding
+ * operation has it: EAGAIN it stops and has IPC_NOWAIT; ERANGE a value or an adjustment would leave its range. */
+struct vairolent_told vairolent_operate_in(uint8_t *row, int16_t *adjustments, struct vairolent_waking *wakings,
+                                           uint8_t process, int32_t identifier, const uint8_t *operations,
+                                           size_t bytes);
 static inline struct vairolent_told vairolent_operate(struct vairolent_host *host, uint8_t process, int32_t identifier,
                                                       const struct sembuf *operations, size_t count)
 {
@@ -136,16 +128,21 @@ static inline struct vairolent_told vairolent_operate(struct vairolent_host *hos
                                 (const uint8_t *)operations, counted * VAIROLENT_OPERATION_BYTES);
 }
 
-/* Sets the value of a semaphore, forgets all undo adjustments of it, and wakes sleepers of the set who can go on.
+/* Sets the value of a semaphore and forgets all undo adjustments of it; then the set's sleepers are judged again,
+ * oldest first, and those who finish are woken.
  * Refused, the first that applies: EINVAL no such set, or the number is too high; ERANGE value not 0 to 32,767. */
-static inline struct vairolent_told vairolent_set_value(struct vairolent_host *host, int32_t identifier, uint16_t number,
-                                                        int32_t value)
+struct vairolent_told vairolent_set_value_in(uint8_t *row, int16_t *adjustments, struct vairolent_waking *wakings,
+                                             int32_t identifier, uint16_t number, int32_t value);
+static inline struct vairolent_told vairolent_set_value(struct vairolent_host *host, int32_t identifier,
+                                                        uint16_t number, int32_t value)
 {
     return vairolent_set_value_in(host->row, host->adjustments, host->wakings, identifier, number, value);
 }
 
 /* Removes a set and frees its slot. Its sleepers are woken with EIDRM, oldest first.
  * Refused: EINVAL no such set. */
+struct vairolent_told vairolent_remove_in(uint8_t *row, int16_t *adjustments, struct vairolent_waking *wakings,
+                                          int32_t identifier);
 static inline struct vairolent_told vairolent_remove(struct vairolent_host *host, int32_t identifier)
 {
     return vairolent_remove_in(host->row, host->adjustments, host->wakings, identifier);
@@ -153,14 +150,19 @@ static inline struct vairolent_told vairolent_remove(struct vairolent_host *host
 
 /* A signal for a process: if it sleeps it is woken with EINTR, if it is awake nothing changes.
  * Refused: ESRCH process not 1 to 8. */
+struct vairolent_told vairolent_signal_in(uint8_t *row, int16_t *adjustments, struct vairolent_waking *wakings,
+                                          uint8_t process);
 static inline struct vairolent_told vairolent_signal(struct vairolent_host *host, uint8_t process)
 {
     return vairolent_signal_in(host->row, host->adjustments, host->wakings, process);
 }
 
 /* The end of a process. If it sleeps it is taken out, without a waking. Each of its undo adjustments is added to its
- * semaphore, cut to 0 to 32,767, and set to zero; then sleepers who can go on are woken, set by set.
+ * semaphore, cut to 0 to 32,767, and set to zero; then the sleepers are judged again, set by set, and those who finish
+ * are woken.
  * Refused: ESRCH process not 1 to 8. */
+struct vairolent_told vairolent_exit_in(uint8_t *row, int16_t *adjustments, struct vairolent_waking *wakings,
+                                        uint8_t process);
 static inline struct vairolent_told vairolent_exit(struct vairolent_host *host, uint8_t process)
 {
     return vairolent_exit_in(host->row, host->adjustments, host->wakings, process);
@@ -168,6 +170,8 @@ static inline struct vairolent_told vairolent_exit(struct vairolent_host *host, 
 
 /* Shows a semaphore. The host stays as it is.
  * Refused, the first that applies: EINVAL no such set, or the number is too high. */
+struct vairolent_queried vairolent_query_in(const uint8_t *row, const int16_t *adjustments, int32_t identifier,
+                                            uint16_t number);
 static inline struct vairolent_queried vairolent_query(const struct vairolent_host *host, int32_t identifier,
                                                        uint16_t number)
 {

@@ -1,8 +1,8 @@
 /* Holds the sizes, offsets and constants of vairolent.h to those of the archive.
  *
  * Sizes are measured: the platform's convention returns a struct of more than 16 bytes by writing it where the first
- * argument points, so a call into memory filled twice, with different bytes, shows which bytes the archive writes. Offsets
- * show where answers have another number in every field, constants in what the events accept. */
+ * argument points, so a call into memory filled twice, with different bytes, shows which bytes the archive writes.
+ * Offsets show where answers have another number in every field, constants in what the events accept. */
 #include <errno.h>
 #include <stdio.h>
 #include <string.h>
@@ -25,8 +25,10 @@ static void want(const char *what, long long is, long long wanted)
 /* The archive's functions as the convention has them. */
 extern void *raw_limits(void *result) __asm__("vairolent_limits");
 extern void *raw_fresh(void *result) __asm__("vairolent_fresh");
-extern void *raw_signal(void *result, uint8_t *, int16_t *, struct vairolent_waking *, uint8_t) __asm__("vairolent_signal_in");
-extern void *raw_query(void *result, const uint8_t *, const int16_t *, int32_t, uint16_t) __asm__("vairolent_query_in");
+extern void *raw_signal(void *result, uint8_t *, int16_t *, struct vairolent_waking *, uint8_t)
+    __asm__("vairolent_signal_in");
+extern void *raw_query(void *result, const uint8_t *, const int16_t *, int32_t, uint16_t)
+    __asm__("vairolent_query_in");
 
 static struct vairolent_host host;
 
@@ -95,8 +97,8 @@ static void limits(void)
     want("VAIROLENT_ROW_BYTES", VAIROLENT_ROW_BYTES, (long long)built.row_bytes);
     want("VAIROLENT_ADJUSTMENTS", VAIROLENT_ADJUSTMENTS, (long long)built.adjustments);
     want("the bytes of a row", sizeof host.row, (long long)built.row_bytes);
-    want("the number of adjustments", sizeof host.adjustments / sizeof host.adjustments[0], (long long)built.adjustments);
-    want("the number of wakings", sizeof host.wakings / sizeof host.wakings[0], (long long)built.processes);
+    want("the bytes of the adjustments", sizeof host.adjustments, 2 * (long long)built.adjustments);
+    want("the bytes of the wakings", sizeof host.wakings, 2 * (long long)built.processes);
 }
 
 static struct vairolent_told operate(uint8_t process, int32_t set, unsigned short number, short amount, short flags)
@@ -171,7 +173,9 @@ static void edges(void)
     want("an operation too many", vairolent_operate(&host, 1, 0, none, VAIROLENT_OPERATIONS + 1).code, E2BIG);
     want("more than memory holds", vairolent_operate(&host, 1, 0, none, SIZE_MAX / 3).code, E2BIG);
     want("no operations", vairolent_operate(&host, 1, 0, NULL, 0).code, EINVAL);
-    want("half an operation", vairolent_operate_in(host.row, host.adjustments, host.wakings, 1, 0, (uint8_t *)none, 9).code, EINVAL);
+    struct vairolent_told half =
+        vairolent_operate_in(host.row, host.adjustments, host.wakings, 1, 0, (const uint8_t *)none, 9);
+    want("one operation and a half", half.code, EINVAL);
     want("the largest value", vairolent_set_value(&host, 0, 0, VAIROLENT_VALUE_MAX).code, 0);
     want("a value too large", vairolent_set_value(&host, 0, 0, VAIROLENT_VALUE_MAX + 1).code, ERANGE);
     want("over the largest value", operate(1, 0, 0, 1, 0).code, ERANGE);

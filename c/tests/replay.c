@@ -1,5 +1,5 @@
-/* Replays a run file from standard input through the library, and writes the lines that the proved program replay writes:
- * the comparison holds the two to each other. */
+/* Replays a run file from standard input through the library, and writes the lines that the proved program replay
+ * writes: the comparison holds the two to each other. */
 #include <inttypes.h>
 #include <stdio.h>
 #include <string.h>
@@ -118,7 +118,8 @@ static void write_told(struct vairolent_told told)
 static void write_queried(struct vairolent_queried seen)
 {
     printf(" %" PRId32 " %d %d %" PRIu32 " %" PRIu32 "\n", seen.code, seen.value, seen.last, seen.increase, seen.zero);
-    if (__builtin_popcount(seen.increase_mask) != (int)seen.increase || __builtin_popcount(seen.zero_mask) != (int)seen.zero)
+    if (__builtin_popcount(seen.increase_mask) != (int)seen.increase ||
+        __builtin_popcount(seen.zero_mask) != (int)seen.zero)
         fprintf(stderr, "replay: a wait count is not the number of ones in its mask\n");
 }
 
