@@ -6,6 +6,18 @@ use crate::codes;
 use crate::wakings::Wakings;
 
 /// What becomes of a call that is not refused.
+///
+/// ```
+/// use vairolent::{Host, Operation, ALL};
+///
+/// let mut host = Host::new();
+/// let set = host.create(1, ALL, ALL)?;
+/// let asleep = host.operate(1, set, &[Operation::new(0, -1)])?;
+/// assert_eq!(asleep.to_string(), "asleep (-1)");
+/// let done = host.operate(2, set, &[Operation::new(0, 1)])?;
+/// assert_eq!(done.to_string(), "done (0), 1 look; process 1: done (0)");
+/// # Ok::<(), vairolent::Error>(())
+/// ```
 #[derive(Clone, Debug, PartialEq, Eq)]
 #[must_use = "a call that is asleep has not done its operations"]
 pub enum Answer {
@@ -29,6 +41,18 @@ impl fmt::Display for Answer {
 ///
 /// A sleeper counts once, at the operation where it now stops: for increase if that amount is
 /// negative, else for zero. Each count is the number of ones in its mask.
+///
+/// ```
+/// use vairolent::{Answer, Host, Operation, ALL};
+///
+/// let mut host = Host::new();
+/// let set = host.create(1, ALL, ALL)?;
+/// assert_eq!(host.operate(3, set, &[Operation::new(0, -2)])?, Answer::Asleep);
+/// let _ = host.operate(4, set, &[Operation::new(0, 1)])?;
+/// let seen = host.query(set, 0)?;
+/// assert_eq!(seen.to_string(), "value 1, last process 4, waiting 1 for increase, 0 for zero");
+/// # Ok::<(), vairolent::Error>(())
+/// ```
 #[derive(Clone, Copy, Debug, PartialEq, Eq, Hash)]
 pub struct Semaphore {
     /// 0 to 32,767.

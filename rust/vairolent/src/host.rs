@@ -65,6 +65,13 @@ impl Host {
     /// # Panics
     ///
     /// If libvairolent.a was built for other limits than this package.
+    ///
+    /// ```
+    /// use vairolent::{Error, Host};
+    ///
+    /// // There is no set yet.
+    /// assert_eq!(Host::new().query(0, 0), Err(Error::Invalid));
+    /// ```
     pub fn new() -> Host {
         // SAFETY: It takes nothing, and has no premise.
         let limits = unsafe { archive::vairolent_limits() };

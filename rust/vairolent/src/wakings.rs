@@ -12,6 +12,14 @@ coded! {
     /// How the call of a sleeper ended.
     ///
     /// Each has its number and name on Linux, but for `done`, which is 0.
+    ///
+    /// ```
+    /// use vairolent::Ending;
+    ///
+    /// assert_eq!((Ending::Removed.code(), Ending::Removed.name()), (43, "EIDRM"));
+    /// assert_eq!(Ending::Removed.to_string(), "EIDRM (43): its set was removed");
+    /// assert_eq!(Ending::Done.to_string(), "done (0)");
+    /// ```
     pub enum Ending {
         /// All its operations are done.
         Done = DONE,
@@ -27,6 +35,13 @@ coded! {
 }
 
 /// A sleeper that an event ended.
+///
+/// ```
+/// use vairolent::{Ending, Waking};
+///
+/// let waking = Waking { process: 2, ending: Ending::Interrupted };
+/// assert_eq!(waking.to_string(), "process 2: EINTR (4): a signal interrupted it");
+/// ```
 #[derive(Clone, Copy, Debug, PartialEq, Eq, Hash)]
 pub struct Waking {
     /// The process that slept, 1 to 8.
@@ -38,6 +53,23 @@ pub struct Waking {
 /// The wakings of an event, in the order in which the sleepers were ended.
 ///
 /// Two are equal if they have the same looks and the same wakings to come.
+///
+/// ```
+/// use vairolent::{Answer, Ending, Host, Operation, ALL};
+///
+/// let mut host = Host::new();
+/// let set = host.create(1, ALL, ALL)?;
+/// for process in [3, 5] {
+///     assert_eq!(host.operate(process, set, &[Operation::new(0, -1)])?, Answer::Asleep);
+/// }
+/// let wakings = host.set_value(set, 0, 1)?;
+/// // Process 3 takes the 1 and is woken; process 5 is judged and sleeps on.
+/// assert_eq!((wakings.len(), wakings.looks()), (1, 2));
+/// for waking in wakings {
+///     assert_eq!((waking.process, waking.ending), (3, Ending::Done));
+/// }
+/// # Ok::<(), vairolent::Error>(())
+/// ```
 #[derive(Clone)]
 #[must_use = "each waking is a process that sleeps until it is told"]
 pub struct Wakings {
