@@ -31,8 +31,8 @@ fn table(arguments: &[String]) -> Result<String, String> {
         _ => return Err(USAGE.to_string()),
     };
     let rounds = rounds.filter(|&rounds| rounds > 0).ok_or(USAGE)?;
-    let mut text = "| File | Events | library, ns | ordinary Rust, ns | Ratio |\n".to_string();
-    text += "|---|---:|---:|---:|---:|\n";
+    let mut text = "| File | library, ns | ordinary Rust, ns | Ratio |\n".to_string();
+    text += "|---|---:|---:|---:|\n";
     for path in paths {
         let bytes = std::fs::read(path).map_err(|error| format!("{path}: {error}"))?;
         let run = RunFile::read(&bytes).map_err(|bad| format!("{path}: bad {}", bad as i32))?;
@@ -42,8 +42,7 @@ fn table(arguments: &[String]) -> Result<String, String> {
         let (library, ordinary) = (each(library), each(ordinary));
         let name = path.rsplit('/').next().unwrap_or(path).trim_end_matches(".run");
         let ratio = library / ordinary;
-        let count = events.len();
-        text += &format!("| {name} | {count} | {library:.0} | {ordinary:.0} | {ratio:.2} |\n");
+        text += &format!("| {name} | {library:.0} | {ordinary:.0} | {ratio:.2} |\n");
     }
     Ok(text)
 }
