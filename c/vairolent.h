@@ -52,7 +52,8 @@ struct vairolent_host {
     struct vairolent_waking wakings[VAIROLENT_PROCESSES];
 };
 
-/* What an event tells. A refused event tells its code and zeros, wakes nobody, and leaves everything as it stood. */
+/* What an event tells. A refused event tells its code and zeros, wakes nobody, and leaves sets, undo adjustments and
+ * sleepers exactly as they stood. */
 struct vairolent_told {
     int32_t code;   /* 0, VAIROLENT_ASLEEP, or why the event is refused */
     uint32_t value; /* a create's: the identifier of its set; 0 of every other event */
@@ -63,8 +64,8 @@ struct vairolent_told {
 /* What a query tells: a semaphore, and who waits for it now. */
 struct vairolent_queried {
     int32_t code;          /* 0, or why the query is refused; then all else is 0 */
-    uint16_t value;
-    uint8_t last;          /* the last process, 0 at creation */
+    uint16_t value;        /* 0 to 32,767 */
+    uint8_t last;          /* the last process whose array altered it: 0 at creation; set value and exit leave it */
     uint32_t increase;     /* how many sleepers wait for an increase */
     uint32_t zero;         /* how many wait for zero */
     uint8_t increase_mask; /* which processes wait for an increase: process p has bit p-1 */
@@ -93,11 +94,17 @@ struct vairolent_limits vairolent_limits(void);
 struct vairolent_host vairolent_fresh(void);
 
 /* The seven events. Each has a function of the archive, NAME_in, whose promise is proved; it takes the parts of a host,
- * which lie apart from each other and from the operations. NAME takes a whole host and hands its parts on. */
+ * which lie apart from each other and from the operations. NAME takes a whole host and hands its parts on.
+ *
+ * How sleepers are woken: those of the set whose arrays name a semaphore whose value changed or was set are judged
+ * again, oldest first. One that no longer sleeps is woken, with 0 and its array applied, or with EAGAIN or ERANGE; then
+ * those who name a semaphore whose value it changed are to be judged too, and it begins again with the oldest, until
+ * nobody is left to be judged. So nobody sleeps on who could finish. */
 
 /* Makes a set of 1 to 8 semaphores with value 0 in the lowest free slot. The masks say which processes may read it
  * (an operation with amount 0) and alter it (any other). The value told is its identifier: slot + 4 x generation,
- * where the slot's generation goes up by one at each removal.
+ * where the slot's generation goes up by one at each removal, from 65,535 round to 0: a very old identifier can match
+ * again.
  * Refused, the first that applies: EINVAL count 0 or over 8; ENOSPC no free slot. */
 struct vairolent_told vairolent_create_in(uint8_t *row, int16_t *adjustments, struct vairolent_waking *wakings,
                                           uint8_t count, uint8_t read, uint8_t alter);
@@ -109,27 +116,31 @@ static inline struct vairolent_told vairolent_create(struct vairolent_host *host
 
 /* An array of operations of a process at a set, done as a whole or not at all, as semop does it. Each operation is
  * judged on what those before it leave: an amount above 0 is added to the value; one below 0 is taken from it, and
- * stops where the value is smaller; 0 stops where the value is not 0. With SEM_UNDO the amount is also subtracted
- * from the process's undo adjustment. The first operation that stops, or gives ERANGE, decides: where it stops the
- * process sleeps (VAIROLENT_ASLEEP) and nothing else changes. If none does the array is done; then the set's
- * sleepers are judged again, oldest first, and those who finish are woken.
- * Refused, the first that applies: ESRCH process not 1 to 8; EBUSY it is asleep; EINVAL no operations; E2BIG over 8;
- * EINVAL no such set; EFBIG a number at or above the set's count; EACCES not permitted; then as the deciding
- * operation has it: EAGAIN it stops and has IPC_NOWAIT; ERANGE a value or an adjustment would leave its range. */
+ * stops where the value is smaller; 0 stops where the value is not 0. With SEM_UNDO the amount is also subtracted from
+ * the process's undo adjustment. The first operation that stops, or gives ERANGE, decides: where it stops the process
+ * sleeps (VAIROLENT_ASLEEP) and nothing else changes. If none does the array is done, the process becomes the last of
+ * each semaphore with an operation other than zero, and sleepers are woken. The archive's function takes the bytes of
+ * the operations, six for each.
+ * Refused, the first that applies: ESRCH process not 1 to 8; EBUSY it is asleep; EINVAL no operations, or bytes not a
+ * multiple of 6; E2BIG over 8 operations; EINVAL no such set; EFBIG a number at or above the set's count; EACCES not
+ * permitted; then as the deciding operation has it: EAGAIN it stops and has IPC_NOWAIT; ERANGE a value or an adjustment
+ * would leave its range. */
 struct vairolent_told vairolent_operate_in(uint8_t *row, int16_t *adjustments, struct vairolent_waking *wakings,
                                            uint8_t process, int32_t identifier, const uint8_t *operations,
                                            size_t bytes);
 static inline struct vairolent_told vairolent_operate(struct vairolent_host *host, uint8_t process, int32_t identifier,
                                                       const struct sembuf *operations, size_t count)
 {
-    /* Every number over the limit is answered alike, so that the bytes are counted without overflow. */
+    /* Every number over the limit is answered alike, so that the bytes are counted without overflow; of no operations
+     * the pointer may be null here, and is not there. */
+    static const uint8_t none = 0;
+    const uint8_t *bytes = count == 0 ? &none : (const uint8_t *)operations;
     size_t counted = count <= VAIROLENT_OPERATIONS ? count : VAIROLENT_OPERATIONS + 1;
-    return vairolent_operate_in(host->row, host->adjustments, host->wakings, process, identifier,
-                                (const uint8_t *)operations, counted * VAIROLENT_OPERATION_BYTES);
+    return vairolent_operate_in(host->row, host->adjustments, host->wakings, process, identifier, bytes,
+                                counted * VAIROLENT_OPERATION_BYTES);
 }
 
-/* Sets the value of a semaphore and forgets all undo adjustments of it; then the set's sleepers are judged again,
- * oldest first, and those who finish are woken.
+/* Sets the value of a semaphore, forgets all undo adjustments of it, and wakes sleepers, even if the value is the same.
  * Refused, the first that applies: EINVAL no such set, or the number is too high; ERANGE value not 0 to 32,767. */
 struct vairolent_told vairolent_set_value_in(uint8_t *row, int16_t *adjustments, struct vairolent_waking *wakings,
                                              int32_t identifier, uint16_t number, int32_t value);
@@ -158,8 +169,7 @@ static inline struct vairolent_told vairolent_signal(struct vairolent_host *host
 }
 
 /* The end of a process. If it sleeps it is taken out, without a waking. Each of its undo adjustments is added to its
- * semaphore, cut to 0 to 32,767, and set to zero; then the sleepers are judged again, set by set, and those who finish
- * are woken.
+ * semaphore, cut to 0 to 32,767, and set to zero; then sleepers are woken, set by set from slot 0 up.
  * Refused: ESRCH process not 1 to 8. */
 struct vairolent_told vairolent_exit_in(uint8_t *row, int16_t *adjustments, struct vairolent_waking *wakings,
                                         uint8_t process);

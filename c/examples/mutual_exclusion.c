@@ -24,7 +24,7 @@ int main(void)
     /* One semaphore: 1 while the table is free. With SEM_UNDO it is given back when a predictor dies. */
     struct sembuf take = {.sem_num = 0, .sem_op = -1, .sem_flg = SEM_UNDO};
     struct sembuf give = {.sem_num = 0, .sem_op = 1, .sem_flg = SEM_UNDO};
-    struct sembuf try = {.sem_num = 0, .sem_op = -1, .sem_flg = SEM_UNDO | IPC_NOWAIT};
+    struct sembuf attempt = {.sem_num = 0, .sem_op = -1, .sem_flg = SEM_UNDO | IPC_NOWAIT};
     host = vairolent_fresh();
     struct vairolent_told made = vairolent_create(&host, 1, VAIROLENT_ALL, VAIROLENT_ALL);
     if (made.code != 0)
@@ -34,7 +34,7 @@ int main(void)
 
     tell("predictor 1 takes the table", vairolent_operate(&host, 1, table, &take, 1));
     tell("predictor 2 takes the table", vairolent_operate(&host, 2, table, &take, 1));
-    tell("predictor 3 takes it only if it is free", vairolent_operate(&host, 3, table, &try, 1));
+    tell("predictor 3 takes it only if it is free", vairolent_operate(&host, 3, table, &attempt, 1));
     tell("predictor 1 dies", vairolent_exit(&host, 1));
     tell("predictor 2 gives the table back", vairolent_operate(&host, 2, table, &give, 1));
 

@@ -46,24 +46,28 @@ struct field {
 #define FIELD(type, name) {offsetof(struct vairolent_##type, name), sizeof((struct vairolent_##type *)0)->name}
 #define FIELDS(fields) fields, sizeof fields / sizeof fields[0]
 
-/* Does a call write the struct: every byte of each field, and up to the end of the last one? */
-static void struct_is(const char *what, size_t size, void (*call)(void *), const struct field *fields, size_t count)
+/* Does a call write the struct: every byte of each field, to the end of the last one, with so much padding between? */
+static void struct_is(const char *what, size_t size, void (*call)(void *), long long padding,
+                      const struct field *fields, size_t count)
 {
     static unsigned char one[4096], two[4096];
     memset(one, 0x00, sizeof one);
     memset(two, 0xff, sizeof two);
     call(one);
     call(two);
-    long long end = sizeof one, left = 0;
+    long long end = sizeof one, left = 0, bytes = 0;
     while (end > 0 && one[end - 1] != two[end - 1])
         end--;
-    for (size_t i = 0; i < count; i++)
+    for (size_t i = 0; i < count; i++) {
+        bytes += (long long)fields[i].bytes;
         for (size_t at = fields[i].at; at < fields[i].at + fields[i].bytes; at++)
             left += one[at] != two[at];
+    }
     printf("%s: %zu bytes\n", what, size);
     want("the size", (long long)size, end);
     want("the end of the last field", (long long)(fields[count - 1].at + fields[count - 1].bytes), end);
     want("the number of bytes of a field that are not written", left, 0);
+    want("the bytes of all fields", bytes, end - padding);
 }
 
 static void sizes(void)
@@ -78,10 +82,10 @@ static void sizes(void)
                                            FIELD(queried, increase_mask), FIELD(queried, zero_mask),
                                            FIELD(queried, looks)};
     host = vairolent_fresh();
-    struct_is("struct vairolent_limits", sizeof(struct vairolent_limits), limits_into, FIELDS(limits));
-    struct_is("struct vairolent_host", sizeof(struct vairolent_host), fresh_into, FIELDS(hosts));
-    struct_is("struct vairolent_told", sizeof(struct vairolent_told), told_into, FIELDS(told));
-    struct_is("struct vairolent_queried", sizeof(struct vairolent_queried), queried_into, FIELDS(queried));
+    struct_is("struct vairolent_limits", sizeof(struct vairolent_limits), limits_into, 0, FIELDS(limits));
+    struct_is("struct vairolent_host", sizeof(struct vairolent_host), fresh_into, 1, FIELDS(hosts));
+    struct_is("struct vairolent_told", sizeof(struct vairolent_told), told_into, 0, FIELDS(told));
+    struct_is("struct vairolent_queried", sizeof(struct vairolent_queried), queried_into, 3, FIELDS(queried));
     want("the bytes of a struct sembuf", sizeof(struct sembuf), VAIROLENT_OPERATION_BYTES);
     want("the bytes of a waking", sizeof(struct vairolent_waking), 2);
 }
@@ -197,6 +201,29 @@ static void arguments(void)
     want("the value of semaphore 1", vairolent_query(&host, 0, 1).value, 7);
 }
 
+/* Arguments and values in their whole width: a set whose identifier has 17 bits, and numbers that a narrower type
+ * would take for others. */
+static void widths(void)
+{
+    enum { GENERATIONS = 16384 };
+    host = vairolent_fresh();
+    for (int32_t i = 0; i < GENERATIONS; i++) {
+        vairolent_create(&host, 1, VAIROLENT_ALL, VAIROLENT_ALL);
+        vairolent_remove(&host, 4 * i);
+    }
+    int32_t set = 4 * GENERATIONS;
+    want("a large identifier", vairolent_create(&host, 1, VAIROLENT_ALL, VAIROLENT_ALL).value, set);
+    want("no set 0", vairolent_query(&host, 0, 0).code, EINVAL);
+    want("an operate by it", operate(1, set, 0, 300, 0).code, 0);
+    want("the value, by it", vairolent_query(&host, set, 0).value, 300);
+    want("no semaphore 256", vairolent_query(&host, set, 256).code, EINVAL);
+    want("no semaphore 256 to set", vairolent_set_value(&host, set, 256, 1).code, EINVAL);
+    want("no value of 65,536", vairolent_set_value(&host, set, 0, 65536).code, ERANGE);
+    want("a value set, by it", vairolent_set_value(&host, set, 0, 256).code, 0);
+    want("the value that was set", vairolent_query(&host, set, 0).value, 256);
+    want("a removal by it", vairolent_remove(&host, set).code, 0);
+}
+
 /* The codes by their names in <errno.h>: those that are not above. */
 static void codes(void)
 {
@@ -220,6 +247,7 @@ int main(void)
     offsets_queried();
     edges();
     arguments();
+    widths();
     codes();
     printf("%d passed, %d failed\n", passed, failed);
     return failed != 0;

@@ -53,7 +53,7 @@ static int body_code(const uint8_t *body, size_t bytes)
     return bytes == size ? 0 : BAD_BODY;
 }
 
-/* What is wrong with the table, and then with the bodies; 0 if nothing. */
+/* What is wrong with the offsets and the end; 0 if nothing. */
 static int offsets_code(void)
 {
     size_t end = HEAD + ENTRY * events();
@@ -65,6 +65,7 @@ static int offsets_code(void)
     return end == length ? 0 : BAD_OFFSET;
 }
 
+/* What is wrong with the head, the table and then the bodies; 0 if nothing. */
 static int file_code(void)
 {
     if (length > FILE_MAX || length < HEAD || length < HEAD + ENTRY * events())

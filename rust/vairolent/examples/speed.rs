@@ -63,7 +63,7 @@ impl<'a> From<Event<'a>> for Handed<'a> {
     }
 }
 
-/// The best time of each side; nothing if they ever told something else.
+/// The best time of each side; nothing if what they told ever came to another sum.
 fn best(events: &[Handed], rounds: u32) -> Option<[Duration; 2]> {
     let mut best = [Duration::MAX; 2];
     for _ in 0..rounds {

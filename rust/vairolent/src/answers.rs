@@ -23,7 +23,7 @@ use crate::wakings::Wakings;
 pub enum Answer {
     /// All its operations are done, and these sleepers were ended.
     Done(Wakings),
-    /// Nothing is done. The process sleeps until the wakings of an event list it.
+    /// Nothing is done. The process sleeps until the wakings of an event list it, or it exits.
     Asleep,
 }
 

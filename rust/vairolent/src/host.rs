@@ -17,6 +17,16 @@ use crate::wakings::Wakings;
 /// Only the events change a host, so it is always fresh or as the last event left it. That is the
 /// one premise of what is proved about them, and it holds of a clone too.
 ///
+/// # How sleepers are woken
+///
+/// After an operate that is done, a set value or an exit, those sleepers of the set are judged again
+/// whose operations name a semaphore whose value changed or was set, oldest first. One that no longer
+/// sleeps is woken: done and applied, or with an error of its own. Then those who name a semaphore
+/// whose value it changed are to be judged too, and it begins again with the oldest, until nobody is
+/// left to be judged. Each judging is a look. So nobody sleeps on who could finish.
+///
+/// # Equality
+///
 /// Two hosts are equal exactly when they hold the same state. A host is nothing but how it holds
 /// its state, part by part (`crates/host/specs/Holding.antt#Held`), and two rows of bytes that say
 /// the same, part by part, are the same row (`crates/host/proofs/Whole.antt#whole`).
@@ -83,7 +93,9 @@ impl Host {
 
     /// Makes a set of `count` semaphores at 0 in the lowest free slot, and gives its identifier.
     ///
-    /// The masks say which processes may read it and alter it; process p has bit p-1.
+    /// The masks say which processes may read it and alter it; process p has bit p-1. The identifier
+    /// is slot + 4 x generation; the slot's generation goes up by one at each removal, from 65,535
+    /// round to 0, so that a very old identifier can match again.
     ///
     /// # Errors
     ///
@@ -110,8 +122,8 @@ impl Host {
     ///
     /// They are judged in order, on a copy of the set's values and of the process's adjustments;
     /// the first that stops, or would leave a range, decides. If it stops, the process sleeps, and
-    /// nothing else changes. If none does, the copy becomes the state, and those sleepers of the
-    /// set are looked at whose operations name a semaphore that now has another value.
+    /// nothing else changes. If none does, the copy becomes the state, the process the last of each
+    /// semaphore with an operation other than zero, and [sleepers are woken](Host).
     ///
     /// # Errors
     ///
@@ -162,8 +174,8 @@ impl Host {
 
     /// Sets a semaphore to a value, and clears its adjustments for all processes.
     ///
-    /// Then those sleepers of the set are looked at whose operations name that semaphore, even if
-    /// its value is the same as before. The last process stays.
+    /// Then [sleepers are woken](Host), even if the value is the same as before. The last process
+    /// stays.
     ///
     /// # Errors
     ///
@@ -244,8 +256,7 @@ impl Host {
     /// Ends a process. If it is asleep, its call is taken out without a waking.
     ///
     /// Then each of its adjustments is added to its semaphore, cut to 0 to 32,767, and put to zero;
-    /// and in every live set, from slot 0 up, sleepers are looked at as after an operate. The last
-    /// processes stay.
+    /// and [sleepers are woken](Host), set by set from slot 0 up. The last processes stay.
     ///
     /// # Errors
     ///

@@ -2,8 +2,8 @@
 //!
 //! A [`Host`] holds up to four sets of up to eight semaphores, for eight processes. It decides who
 //! sleeps, who wakes, with which code and in which order. It is a library and not a kernel: no event
-//! waits, and a program acts on what its host tells. A process that is asleep is let go on when the
-//! wakings of a later event list it.
+//! waits, and a program acts on what its host tells. A process that is asleep goes on when the wakings
+//! of a later event list it.
 //!
 //! Two predictors write to one table. A semaphore says whether it is free:
 //!

@@ -12,7 +12,7 @@ fn errors() {
         (Error::NoProcess, "ESRCH (3): no such process"),
         (Error::ProcessAsleep, "EBUSY (16): the process is asleep"),
         (Error::Invalid, "EINVAL (22): no such set, or a bad argument"),
-        (Error::TooManyOperations, "E2BIG (7): over 8 operations"),
+        (Error::TooManyOperations, "E2BIG (7): too many operations"),
         (Error::NoSemaphore, "EFBIG (27): a semaphore number is at or above the set's count"),
         (Error::NotPermitted, "EACCES (13): not permitted"),
         (Error::NoSlot, "ENOSPC (28): no slot is free"),
