@@ -25,9 +25,9 @@ use model::Told;
 use model::VALUE_MAX;
 use model::WAKING_BYTES;
 
-// What a caller keeps: the host's row of bytes, its undo adjustments, and the wakings of the last event.
+// What a caller keeps and lends: a host's row of bytes, its undo adjustments, and a list for the wakings of an event.
 #[repr(C)]
-pub struct Host {
+pub struct Fresh {
     pub row: [u8; HOST_BYTES],
     pub adjustments: [i16; ALL_ADJUSTMENTS],
     pub wakings: [u8; WAKING_BYTES],
@@ -61,11 +61,11 @@ pub extern "C" fn vairolent_limits() -> Limits
 }
 
 #[no_mangle]
-pub extern "C" fn vairolent_fresh() -> Host
+pub extern "C" fn vairolent_fresh() -> Fresh
     ensures { λ r. ⌜ hostIn (r .row) (r .adjustments) ≡ hostOf freshState ⌝ }
     ensures { λ r. ⌜ wakingsIn (r .wakings) ≡ listOf [] ⌝ }
 {
-    Host {
+    Fresh {
         row: host::fresh(),
         adjustments: host::no_adjustments(),
         wakings: [0u8; WAKING_BYTES],

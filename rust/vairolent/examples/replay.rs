@@ -6,7 +6,8 @@ mod through;
 use std::io::{self, Read, Write};
 
 use second::{Event, RunFile, FILE_MAX};
-use vairolent::{Answer, Error, Host, Wakings};
+use through::Told;
+use vairolent::Host;
 
 fn main() -> io::Result<()> {
     let mut file = Vec::new();
@@ -19,7 +20,7 @@ fn main() -> io::Result<()> {
             text += &format!("events {}\n", run.len());
             let mut host = Host::new();
             for (position, event) in run.events().enumerate() {
-                text += &format!("{position} {}\n", answered(&mut host, &event));
+                text += &format!("{position} {}\n", line(&mut host, &event));
             }
         }
     }
@@ -27,45 +28,23 @@ fn main() -> io::Result<()> {
 }
 
 /// The line of an event, behind its position.
-fn answered(host: &mut Host, event: &Event) -> String {
-    match *event {
-        Event::Create { count, read, alter } => match host.create(count, read, alter) {
-            Ok(identifier) => format!("0 {identifier} 0"),
-            Err(error) => refused(error),
-        },
-        Event::Operate { process, identifier, operations } => {
-            match host.operate(process, identifier, &through::operations(operations)) {
-                Ok(Answer::Done(wakings)) => done(Ok(wakings)),
-                Ok(Answer::Asleep) => "-1 0 0".to_string(),
-                Err(error) => refused(error),
-            }
+fn line(host: &mut Host, event: &Event) -> String {
+    match through::run(host, event, &through::operations(event)) {
+        Told::Refused(error) if matches!(event, Event::Query { .. }) => {
+            format!("{} 0 0 0 0", error.code())
         }
-        Event::SetValue { identifier, number, value } => {
-            done(host.set_value(identifier, number, value))
-        }
-        Event::Remove { identifier } => done(host.remove(identifier)),
-        Event::Signal { process } => done(host.signal(process)),
-        Event::Exit { process } => done(host.exit(process)),
-        Event::Query { identifier, number } => match host.query(identifier, number) {
-            Ok(seen) => format!("0 {} {} {} {}", seen.value, seen.last, seen.increase, seen.zero),
-            Err(error) => format!("{} 0 0 0 0", error.code()),
-        },
-    }
-}
-
-fn done(result: Result<Wakings, Error>) -> String {
-    match result {
-        Ok(wakings) => {
+        Told::Refused(error) => format!("{} 0 0", error.code()),
+        Told::Asleep => "-1 0 0".to_string(),
+        Told::Made(identifier) => format!("0 {identifier} 0"),
+        Told::Done(wakings) => {
             let mut line = format!("0 0 {}", wakings.looks());
             for waking in wakings {
                 line += &format!(" {}={}", waking.process, waking.ending.code());
             }
             line
         }
-        Err(error) => refused(error),
+        Told::Seen(seen) => {
+            format!("0 {} {} {} {}", seen.value, seen.last, seen.increase, seen.zero)
+        }
     }
-}
-
-fn refused(error: Error) -> String {
-    format!("{} 0 0", error.code())
 }

@@ -7,7 +7,8 @@ use std::process::ExitCode;
 use std::time::{Duration, Instant};
 
 use second::{Event, RunFile};
-use vairolent::{Answer, Error, Host, Operation, Wakings};
+use through::Told;
+use vairolent::{Host, Operation};
 
 const USAGE: &str = "usage: speed ROUNDS FILE...";
 
@@ -55,11 +56,7 @@ struct Handed<'a> {
 
 impl<'a> From<Event<'a>> for Handed<'a> {
     fn from(event: Event<'a>) -> Handed<'a> {
-        let operations = match event {
-            Event::Operate { operations, .. } => through::operations(operations),
-            _ => Vec::new(),
-        };
-        Handed { event, operations }
+        Handed { event, operations: through::operations(&event) }
     }
 }
 
@@ -84,29 +81,12 @@ fn best(events: &[Handed], rounds: u32) -> Option<[Duration; 2]> {
 
 /// Code, value, looks and number of wakings of an event, added up; a query's code and value.
 fn by_library(host: &mut Host, handed: &Handed) -> i64 {
-    let done = |result: Result<Wakings, Error>| match result {
-        Ok(wakings) => (wakings.looks() + wakings.len()) as i64,
-        Err(error) => error.code().into(),
-    };
-    let number = |result: Result<i32, Error>| result.unwrap_or_else(Error::code).into();
-    match handed.event {
-        Event::Create { count, read, alter } => number(host.create(count, read, alter)),
-        Event::Operate { process, identifier, .. } => {
-            match host.operate(process, identifier, &handed.operations) {
-                Ok(Answer::Done(wakings)) => done(Ok(wakings)),
-                Ok(Answer::Asleep) => -1,
-                Err(error) => done(Err(error)),
-            }
-        }
-        Event::SetValue { identifier, number, value } => {
-            done(host.set_value(identifier, number, value))
-        }
-        Event::Remove { identifier } => done(host.remove(identifier)),
-        Event::Signal { process } => done(host.signal(process)),
-        Event::Exit { process } => done(host.exit(process)),
-        Event::Query { identifier, number: at } => {
-            number(host.query(identifier, at).map(|seen| seen.value.into()))
-        }
+    match through::run(host, &handed.event, &handed.operations) {
+        Told::Refused(error) => error.code().into(),
+        Told::Asleep => -1,
+        Told::Made(identifier) => identifier.into(),
+        Told::Done(wakings) => (wakings.looks() + wakings.len()) as i64,
+        Told::Seen(seen) => seen.value.into(),
     }
 }
 
