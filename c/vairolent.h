@@ -65,7 +65,7 @@ struct vairolent_told {
 struct vairolent_queried {
     int32_t code;          /* 0, or why the query is refused; then all else is 0 */
     uint16_t value;        /* 0 to 32,767 */
-    uint8_t last;          /* the last process whose array altered it: 0 at creation; set value and exit leave it */
+    uint8_t last;          /* the last process with a done array that names it; 0 if there was none since creation */
     uint32_t increase;     /* how many sleepers wait for an increase */
     uint32_t zero;         /* how many wait for zero */
     uint8_t increase_mask; /* which processes wait for an increase: process p has bit p-1 */
@@ -119,8 +119,8 @@ static inline struct vairolent_told vairolent_create(struct vairolent_host *host
  * stops where the value is smaller; 0 stops where the value is not 0. With SEM_UNDO the amount is also subtracted from
  * the process's undo adjustment. The first operation that stops, or gives ERANGE, decides: where it stops the process
  * sleeps (VAIROLENT_ASLEEP) and nothing else changes. If none does the array is done, the process becomes the last of
- * each semaphore with an operation other than zero, and sleepers are woken. The archive's function takes the bytes of
- * the operations, six for each.
+ * every semaphore that the array names, amounts of 0 included, and sleepers are woken; one whose array is done then is
+ * the last of those that it names. The archive's function takes the bytes of the operations, six for each.
  * Refused, the first that applies: ESRCH process not 1 to 8; EBUSY it is asleep; EINVAL no operations, or bytes not a
  * multiple of 6; E2BIG over 8 operations; EINVAL no such set; EFBIG a number at or above the set's count; EACCES not
  * permitted; then as the deciding operation has it: EAGAIN it stops and has IPC_NOWAIT; ERANGE a value or an adjustment

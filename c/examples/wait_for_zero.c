@@ -27,7 +27,8 @@ int main(void)
     for (uint8_t process = 1; process <= PREDICTIONS; process++) {
         told = vairolent_operate(&host, process, set, &one_in, 1);
         struct vairolent_queried seen = vairolent_query(&host, set, 0);
-        printf("prediction %d is in: %d to come, %u waiting for zero\n", process, seen.value, (unsigned)seen.zero);
+        printf("prediction %d is in: %d to come, %u waiting for zero, last process %d\n", process, seen.value,
+               (unsigned)seen.zero, seen.last);
         for (size_t i = 0; i < told.woken; i++)
             if (host.wakings[i].process == BILL && host.wakings[i].code == 0)
                 printf("the bill is written\n");

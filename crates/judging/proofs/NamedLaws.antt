@@ -1,4 +1,4 @@
--- Masks of named semaphores: the model's, where no number is too high; and the loop that gathers the bits of operations.
+-- The mask of named semaphores: the model's, where no number is too high; and the loop that gathers it.
 use Prim.Native.Nat.{ℕ, _+_, _*_, _/_, _^_, _<_}
 use mathlib.Core.Path.{_≡_, refl}
 use mathlib.Core.List.{List, [], _∷_}
@@ -11,21 +11,21 @@ use Rattle.model.specs.Operation.{operationAt}
 use Rattle.model.specs.Marks.{namedBy}
 use Rattle.model.specs.Runs.{All}
 use Rattle.model.proofs.Lists as all
-use Rattle.judging.specs.Named.{withBits, namedWithin}
+use Rattle.judging.specs.Named.{numberBit, namedWithin}
 use Rattle.judging.proofs.Operations.{rest, first, none}
 
 pub named-within : (m : ℕ) (os : List Operation) → All (λ (o : Operation). o .number < semaphores) os → namedWithin m os ≡ namedBy m os
-unfolding withBits namedBy
+unfolding namedWithin namedBy
 named-within m [] h = refl
 named-within m (o ∷ os) h = rw (lt-ltb (o .number) semaphores (all.first h)) (named-within (bitOr m (2 ^ (o .number))) os (all.rest h))
 
 -- ---- the loop's turns: o is the i-th operation of the bytes
 
-module _ (bit : Operation → ℕ) (bytes : List ℕ) (m i : ℕ) where
-  pub more : (o : Operation) → i < length bytes / 6 → o ≡ operationAt bytes (i * 6) → withBits bit (bitOr m (bit o)) (rest bytes (i + 1)) ≡ withBits bit m (rest bytes i)
-  unfolding withBits
+module _ (bytes : List ℕ) (m i : ℕ) where
+  pub more : (o : Operation) → i < length bytes / 6 → o ≡ operationAt bytes (i * 6) → namedWithin (bitOr m (numberBit (o .number))) (rest bytes (i + 1)) ≡ namedWithin m (rest bytes i)
+  unfolding namedWithin
   more o h eo = rw (first bytes i h, eo)
 
-  pub done : i ≡ length bytes / 6 → withBits bit m (rest bytes i) ≡ m
-  unfolding withBits
+  pub done : i ≡ length bytes / 6 → namedWithin m (rest bytes i) ≡ m
+  unfolding namedWithin
   done e = rw (none bytes i e)

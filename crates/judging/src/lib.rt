@@ -1,9 +1,8 @@
 // Judging an array of operations, and the tests that come before it.
 //
 // What is public is listed here. Each of these functions is total: it asks nothing of its caller, and its promise is an
-// equation with a definition of the crate model (`value_of`, `judge`, `names_of`, `altered_of`: of specs/), for every
-// argument. An array is the bytes as they lie in the lent file; bytes that make no whole operation at the end are ignored, as
-// in the definition.
+// equation with a definition of the crate model (`value_of`, `judge`, `names_of`: of specs/), for every argument. An array is
+// the bytes as they lie in the lent file; bytes that make no whole operation at the end are ignored, as in the definition.
 mod amount;
 mod checks;
 mod identifier;
@@ -19,7 +18,6 @@ pub use identifier::answer;
 pub use identifier::in_range;
 pub use identifier::slot_of;
 pub use identifier::value_of;
-pub use named::altered_of;
 pub use named::names_of;
 pub use operation::half;
 pub use operation::signed_of;

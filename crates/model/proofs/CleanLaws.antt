@@ -3,7 +3,7 @@ use Prim.Native.Nat.{ℕ, zero, suc, _+_, _≤_, _<_}
 use native.Mathlib.Omega.{arith}
 use mathlib.Core.Path.{_≡_, refl, ap, _∙_}
 use mathlib.Core.Logic.{_≢_}
-use mathlib.Core.Bool.{Bool, true, false, cond}
+use mathlib.Core.Bool.{Bool, true, false}
 use mathlib.Core.List.{List, [], _∷_}
 use lib.ListN.{length, getD, set, replicate, length-replicate, getD-replicate}
 use lib.Dec.{eqb}
@@ -18,7 +18,7 @@ use Rattle.model.specs.declared.Copies.{Copies}
 use Rattle.model.specs.declared.Engine.{Engine}
 use Rattle.model.specs.Limits.{slots, semaphores, processes, allSemaphores, allAdjustments}
 use Rattle.model.specs.State.{Table, Sleeper, row, undoRow, clearRows, cleared, freshTable, freshState, noSet, noSleeper}
-use Rattle.model.specs.Operation.{operationsOf, isZero}
+use Rattle.model.specs.Operation.{operationsOf}
 use Rattle.model.specs.Look.{copiesOf, look, lastsAfter, applied, after}
 use Rattle.model.specs.Waking.{World, waker, finish}
 use Rattle.model.specs.Events.{clearNumber, assigned, cut, undoAll, exited}
@@ -51,11 +51,7 @@ lasts-zero : (l : List ℕ) (slot p : ℕ) (os : List Operation) (j : ℕ) → g
     → getD (lastsAfter l slot p os) j 0 ≡ 0
 unfolding lastsAfter
 lasts-zero l slot p [] j h others = h
-lasts-zero l slot p (o ∷ os) j h others = lasts-zero _ slot p os j (go (isZero (o .amount))) (rest others)
-  where
-    go : (b : Bool) → getD (cond b l (set l (row slot + o .number) p)) j 0 ≡ 0
-    go true = h
-    go false = getD-set-other l (row slot + o .number) j p 0 (first others) ∙ h
+lasts-zero l slot p (o ∷ os) j h others = lasts-zero _ slot p os j (getD-set-other l (row slot + o .number) j p 0 (first others) ∙ h) (rest others)
 
 module _ {sets : List Set} (counts : All (λ (k : Set). k .count ≤ semaphores) sets) (t : Table) (s : Sleeper) (g : Good t) (f : Fits sets s) where
   applied-clean : Clean sets t → (c : Copies) → Fine c → ((n : ℕ) → countAt sets (s .slot) ≤ n → n < semaphores → Idle n c) → Clean sets (applied t s c)

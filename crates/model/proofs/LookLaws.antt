@@ -3,7 +3,7 @@ use Prim.Native.Nat.{ℕ, _+_, _≤_, _<_}
 use native.Mathlib.Omega.{arith}
 use mathlib.Core.Path.{_≡_, refl, sym, _∙_}
 use mathlib.Core.Logic.{_≢_}
-use mathlib.Core.Bool.{false, cond}
+use mathlib.Core.Bool.{false}
 use mathlib.Core.List.{List, [], _∷_}
 use lib.ListN.{length, getD, set, length-set}
 use lib.Seq.{length-paste, length-slice}
@@ -15,7 +15,7 @@ use Rattle.model.specs.declared.Outcome.the-variants.{Done, Sleep, Again
 use Rattle.model.specs.declared.Copies.{Copies}
 use Rattle.model.specs.Limits.{slots, semaphores, processes}
 use Rattle.model.specs.State.{Table, Sleeper, noSet, row, undoRow}
-use Rattle.model.specs.Operation.{operationsOf, hasBit, isZero}
+use Rattle.model.specs.Operation.{operationsOf, hasBit}
 use Rattle.model.specs.Look.{valuesOf, adjustmentsOf, copiesOf, look, lastsAfter, applied, after}
 use Rattle.model.specs.Marks.{named, differing}
 use Rattle.model.specs.Waking.{couldFinish}
@@ -24,7 +24,7 @@ use Rattle.model.proofs.Lists.{all-map, all-zip, all-zip3, all-getD, al
 use Rattle.model.specs.Invariant.{Good, Fits, Other, countAt}
 use Rattle.model.proofs.Bits.{bit}
 use Rattle.model.proofs.MarkLaws.{untouched, differing-off}
-use Rattle.model.proofs.JudgeLaws.{either, Fine, judge-fine, SameFor, Agreed, judge-local}
+use Rattle.model.proofs.JudgeLaws.{Fine, judge-fine, SameFor, Agreed, judge-local}
 
 -- ---- the copies
 
@@ -65,9 +65,7 @@ module _ {sets : List Set} (t : Table) (s : Sleeper) (g : Good t) (f : Fits sets
 pub length-lasts : (l : List ℕ) (slot p : ℕ) (os : List Operation) → length (lastsAfter l slot p os) ≡ length l
 unfolding lastsAfter
 length-lasts l slot p [] = refl
-length-lasts l slot p (o ∷ os) =
-    length-lasts (cond (isZero (o .amount)) l (set l (row slot + o .number) p)) slot p os
-    ∙ either (λ (k : List ℕ). length k ≡ length l) (isZero (o .amount)) _ _ refl (length-set l (row slot + o .number) p)
+length-lasts l slot p (o ∷ os) = length-lasts (set l (row slot + o .number) p) slot p os ∙ length-set l (row slot + o .number) p
 
 module _ {sets : List Set} (t : Table) (s : Sleeper) (g : Good t) (f : Fits sets s) where
   pub applied-good : (c : Copies) → Fine c → Good (applied t s c)

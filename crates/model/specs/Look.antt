@@ -1,6 +1,5 @@
 -- "A look judges a sleeper's array on the present state"; what an array that is done does to the table.
 use Prim.Native.Nat.{ℕ, _+_}
-use mathlib.Core.Bool.{cond}
 use mathlib.Core.List.{List, [], _∷_}
 use lib.ListN.{set}
 use lib.Seq.{slice, paste}
@@ -12,7 +11,7 @@ use Rattle.model.specs.declared.Copies.{Copies}
 use Rattle.model.specs.declared.Judged.{Judged}
 use Rattle.model.specs.Limits.{semaphores}
 use Rattle.model.specs.State.{Table, withValues, withLasts, withAdjustments, Sleeper, row, undoRow}
-use Rattle.model.specs.Operation.{operationsOf, isZero}
+use Rattle.model.specs.Operation.{operationsOf}
 use Rattle.model.specs.Judge.{judge}
 
 -- the eight values of a set, and the eight adjustments of a process for them
@@ -29,10 +28,10 @@ copiesOf t s = record { values = valuesOf t (s .slot); adjustments = adjustments
 unfoldable pub look : Table → Sleeper → Judged
 look t s = judge (copiesOf t s) (operationsOf (s .array))
 
--- "the last process is set for each semaphore that had an operation other than zero"
+-- "a success sets the last process for every semaphore named in the array, zero amounts included"
 unfoldable pub lastsAfter : List ℕ → ℕ → ℕ → List Operation → List ℕ
 lastsAfter l slot process [] = l
-lastsAfter l slot process (o ∷ os) = lastsAfter (cond (isZero (o .amount)) l (set l (row slot + o .number) process)) slot process os
+lastsAfter l slot process (o ∷ os) = lastsAfter (set l (row slot + o .number) process) slot process os
 
 -- "the copy becomes the state"
 unfoldable pub applied : Table → Sleeper → Copies → Table

@@ -9,7 +9,7 @@ use Rattle.model.specs.declared.Engine.the-variants.{Plain, Quick}
 use Rattle.model.specs.declared.Waking.{Waking}
 use Rattle.model.specs.State.{State, freeSet, freshTable, freshState}
 use Rattle.model.specs.Waking.{waking}
-use Rattle.model.specs.Events.{Event, create, operate, setValue, remove, exit, query, Result}
+use Rattle.model.specs.Events.{Event, create, operate, setValue, remove, exit, query, Answer, answer, nothingSeen, Result}
 use Rattle.model.specs.Runs.{run}
 
 -- ---- operations
@@ -40,11 +40,10 @@ minus n = negsuc (n - 1)
 
 -- ---- rows
 
--- an event, and what it shows: code, value, looks of the plain and of the quick rule, wakings
+-- an event, and what it shows: its answer, looks of the plain and of the quick rule, wakings
 pub record Step : Type 0 where
   pub event : Event
-  pub code : ℤ
-  pub value : ℕ
+  pub answer : Answer
   pub plain : ℕ
   pub quick : ℕ
   pub wakings : List Waking
@@ -56,17 +55,16 @@ pub record Situation : Type 0 where
 
 -- what an engine shows of an event
 pub record Shown : Type 0 where
-  pub code : ℤ
-  pub value : ℕ
+  pub answer : Answer
   pub looks : ℕ
   pub wakings : List Waking
 
 abbrev shown : Result → Shown
-shown r = record { code = r .answer .code; value = r .answer .value; looks = r .looks; wakings = r .wakings }
+shown r = record { answer = r .answer; looks = r .looks; wakings = r .wakings }
 
 abbrev expected : Engine → Step → Shown
-expected Plain s = record { code = s .code; value = s .value; looks = s .plain; wakings = s .wakings }
-expected Quick s = record { code = s .code; value = s .value; looks = s .quick; wakings = s .wakings }
+expected Plain s = record { answer = s .answer; looks = s .plain; wakings = s .wakings }
+expected Quick s = record { answer = s .answer; looks = s .quick; wakings = s .wakings }
 
 -- an engine shows what the row says
 abbrev pub Shows : Engine → Situation → Type 0
@@ -78,15 +76,23 @@ Holds r = (engine : Engine) → Shows engine r
 
 -- ---- the table
 
--- an event that shows a code; a value with code 0; looks and wakings with code 0
-abbrev gives : Event → ℤ → Step
-gives e code = record { event = e; code = code; value = 0; plain = 0; quick = 0; wakings = [] }
+-- an event that shows an answer; a code alone
+abbrev answers : Event → Answer → Step
+answers e a = record { event = e; answer = a; plain = 0; quick = 0; wakings = [] }
 
+abbrev gives : Event → ℤ → Step
+gives e code = answers e (answer code)
+
+-- with code 0: a value; looks and wakings
 abbrev tells : Event → ℕ → Step
-tells e value = record { event = e; code = pos 0; value = value; plain = 0; quick = 0; wakings = [] }
+tells e value = answers e (record { code = pos 0; value = value; seen = nothingSeen })
 
 abbrev wakes : Event → ℕ → ℕ → List Waking → Step
-wakes e plain quick wakings = record { event = e; code = pos 0; value = 0; plain = plain; quick = quick; wakings = wakings }
+wakes e plain quick wakings = record { event = e; answer = answer (pos 0); plain = plain; quick = quick; wakings = wakings }
+
+-- a query that shows a value and a last process, and that nobody waits
+abbrev sees : Event → ℕ → ℕ → Step
+sees e value last = answers e (record { code = pos 0; value = value; seen = record { last = last; increase = 0; zero = 0; increaseMask = 0; zeroMask = 0 } })
 
 abbrev done : ℤ
 done = pos 0
@@ -107,7 +113,7 @@ abbrev pub situation1 : Situation
 situation1 =
     fresh 1
     (gives (operate 1 set0 (op 0 (pos 1) none ++ op 0 (minus 1) none)) done
-    ∷ tells (query set0 0) 0
+    ∷ sees (query set0 0) 0 1
     ∷ gives (operate 1 set0 (op 0 (minus 1) none ++ op 0 (pos 1) none)) asleep
     ∷ [])
 
@@ -117,9 +123,9 @@ situation2 =
     fresh 1
     (gives (setValue set0 0 (pos 32766)) done
     ∷ gives (operate 1 set0 (op 0 (pos 1) none)) done
-    ∷ tells (query set0 0) 32767
-    ∷ gives (operate 1 set0 (op 0 (pos 1) none)) (pos 34)
-    ∷ tells (query set0 0) 32767
+    ∷ sees (query set0 0) 32767 1
+    ∷ gives (operate 2 set0 (op 0 (pos 1) none)) (pos 34)
+    ∷ sees (query set0 0) 32767 1
     ∷ [])
 
 -- 3: 32,767 and -32,768 with IPC_NOWAIT: 11; without: asleep.
@@ -138,7 +144,7 @@ situation4 =
     (gives (operate 1 set0 (op 0 (pos 3) undo)) done
     ∷ gives (operate 2 set0 (op 0 (minus 2) none)) done
     ∷ gives (exit 1) done
-    ∷ tells (query set0 0) 0
+    ∷ sees (query set0 0) 0 2
     ∷ [])
 
 -- 5: value 0, -10 with undo after +10 without; another adds 32,765; exit: 32,767.
@@ -149,7 +155,7 @@ situation5 =
     ∷ gives (operate 1 set0 (op 0 (minus 10) undo)) done
     ∷ gives (operate 2 set0 (op 0 (pos 32765) none)) done
     ∷ gives (exit 1) done
-    ∷ tells (query set0 0) 32767
+    ∷ sees (query set0 0) 32767 2
     ∷ [])
 
 -- 6: value 5, -5 with undo, set value 1, exit: value 1.
@@ -160,7 +166,7 @@ situation6 =
     ∷ gives (operate 1 set0 (op 0 (minus 5) undo)) done
     ∷ gives (setValue set0 0 (pos 1)) done
     ∷ gives (exit 1) done
-    ∷ tells (query set0 0) 1
+    ∷ sees (query set0 0) 1 1
     ∷ [])
 
 -- 7: asleep on (0,+5),(1,-1) with values 0; set value of 0 to 32,765: woken with 34.
@@ -169,6 +175,7 @@ situation7 =
     fresh 2
     (gives (operate 1 set0 (op 0 (pos 5) none ++ op 1 (minus 1) none)) asleep
     ∷ wakes (setValue set0 0 (pos 32765)) 1 1 (waking 1 (pos 34) ∷ [])
+    ∷ sees (query set0 0) 32765 0
     ∷ [])
 
 -- 8: asleep on (0,0,IPC_NOWAIT),(1,-1); set value of 0 to 1: woken with 11.
@@ -177,6 +184,7 @@ situation8 =
     fresh 2
     (gives (operate 1 set0 (op 0 (pos 0) noWait ++ op 1 (minus 1) none)) asleep
     ∷ wakes (setValue set0 0 (pos 1)) 1 1 (waking 1 (pos 11) ∷ [])
+    ∷ sees (query set0 0) 1 0
     ∷ [])
 
 -- 9: +32,767 with undo on 0, another process -1, then +1 with undo: 34.
@@ -247,9 +255,30 @@ abbrev pub situation13 : Situation
 situation13 =
     fresh 8
     (gives (operate 1 set0 (four ++ four)) done
-    ∷ tells (query set0 7) 8
+    ∷ sees (query set0 7) 8 1
     ∷ gives (operate 1 set0 (four ++ four ++ op 7 (pos 1) none)) (pos 7)
     ∷ gives (operate 1 set0 (op 8 (pos 1) none)) (pos 27)
+    ∷ [])
+
+-- 14: value 0, last process 0, process 4 does a zero operation: last process 4.
+abbrev pub situation14 : Situation
+situation14 =
+    fresh 1
+    (sees (query set0 0) 0 0
+    ∷ gives (operate 4 set0 (op 0 (pos 0) none)) done
+    ∷ sees (query set0 0) 0 4
+    ∷ [])
+
+-- 15: process 2 asleep on (0,0),(1,0) with values 1 and 0; process 3 does -1 on 0: 2 is woken, and is the last process of both.
+abbrev pub situation15 : Situation
+situation15 =
+    fresh 2
+    (gives (setValue set0 0 (pos 1)) done
+    ∷ gives (operate 2 set0 (op 0 (pos 0) none ++ op 1 (pos 0) none)) asleep
+    ∷ sees (query set0 1) 0 0
+    ∷ wakes (operate 3 set0 (op 0 (minus 1) none)) 1 1 (waking 2 (pos 0) ∷ [])
+    ∷ sees (query set0 0) 0 2
+    ∷ sees (query set0 1) 0 2
     ∷ [])
 
 abbrev pub table : List Situation
@@ -268,4 +297,6 @@ table =
     ∷ situation12
     ∷ situation12b
     ∷ situation13
+    ∷ situation14
+    ∷ situation15
     ∷ []

@@ -11,8 +11,8 @@ use Rattle.model.specs.Limits.{slots, semaphores, processes, allSemaphores, all
 use Rattle.model.specs.State.{Table, Sleeper, row, undoRow}
 use Rattle.model.specs.Operation.{operationsOf}
 use Rattle.model.specs.Look.{applied}
+use Rattle.model.specs.Marks.{named}
 use Rattle.model.specs.Invariant.{Good}
-use Rattle.judging.specs.Named.{alteredBy}
 use Rattle.host.specs.Parts.{values, lasts, Row}
 use Rattle.host.specs.Rows.{undoAt}
 use Rattle.host.specs.Holding.{Host, tableIn, hostIn}
@@ -53,7 +53,7 @@ sized-good x g = record { values = g .values; lasts = g .lasts; adjustments = g 
 module _ (x : Host) (z : Sized x) where
   -- what `apply` writes is what the model says
   pub copies-applied : (s : Sleeper) → IsSlot (s .slot) → IsProcess (s .process) → Numbered (s .array) → (copies : Copies) → length (copies .values) ≡ semaphores
-      → length (copies .adjustments) ≡ semaphores → (mask : ℕ) → mask ≡ alteredBy 0 (operationsOf (s .array))
+      → length (copies .adjustments) ≡ semaphores → (mask : ℕ) → mask ≡ named s
       → withCopies x (s .process) (s .slot) mask copies ≡ tabled x (applied (tableIn x) s copies)
   unfolding applied
   copies-applied s slot process numbers copies lv lu mask e =

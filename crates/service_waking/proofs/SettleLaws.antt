@@ -15,15 +15,15 @@ use Rattle.model.specs.State.{Table, Sleeper, noSleeper, row}
 use Rattle.model.specs.Operation.{operationsOf}
 use Rattle.model.specs.Judge.{judged, codeOf, finishes}
 use Rattle.model.specs.Look.{look, after, valuesOf, adjustmentsOf}
+use Rattle.model.specs.Marks.{named}
 use Rattle.model.specs.Waking.{without, waking, finish}
 use Rattle.model.specs.Invariant.{Good, Fits}
-use Rattle.host.specs.Parts.{order, sleepsAt, Row}
+use Rattle.host.specs.Parts.{order, sleepsAt, names, Row}
 use Rattle.host.specs.Rows.{from, undoAt}
 use Rattle.host.specs.Holding.{Host, withQueue, withTable, entry, arrayIn, asleepIn, setsIn, queueIn, tableIn}
 use Rattle.host.specs.Queue.{QueueHeld}
-use Rattle.host.proofs.QueueRows.{order-at, slot-read, array-read-back}
+use Rattle.host.proofs.QueueRows.{order-at, slot-read, names-read, array-read-back}
 use Rattle.judging.specs.Walk.{walkFrom}
-use Rattle.judging.specs.Named.{alteredBy}
 use Rattle.service_table.specs.Numbered.{Numbered}
 use Rattle.service_table.specs.Written.{tabled, withCopies}
 use Rattle.service_table.proofs.WrittenLaws.{sized-good, copies-applied}
@@ -43,6 +43,12 @@ module _ (x : Host) (at : ℕ) (k : Settleable x at) where
       ap (λ (p : ℕ). getD (x .row sleepsAt) (entry p) 0) settled-process
       ∙ ap (λ (y : Row). getD (y sleepsAt) (entry (sleeper .process)) 0) (k .holding .holds)
       ∙ slot-read (queueIn (x .row)) (k .holding .fits) at (k .there) (x .row)
+
+  pub settled-names : getD (x .row names) (entry (getD (x .row order) at 0)) 0 ≡ named (getD (queueIn (x .row)) at noSleeper)
+  settled-names =
+      ap (λ (p : ℕ). getD (x .row names) (entry p) 0) settled-process
+      ∙ ap (λ (y : Row). getD (y names) (entry (sleeper .process)) 0) (k .holding .holds)
+      ∙ names-read (queueIn (x .row)) (k .holding .fits) at (k .there) (x .row)
 
   pub settled-array : arrayIn (x .row) (getD (x .row order) at 0) ≡ getD (queueIn (x .row)) at noSleeper .array
   settled-array =
@@ -77,15 +83,14 @@ module _ (x : Host) (at : ℕ) (k : Settleable x at) where
     looked-where = judged-where (tableIn x) sleeper bytes values undo o i c b-is v-is u-is e
 
   -- done: the copies are written
-  pub settle-done : (c : Copies) {o : Outcome} {process slot mask : ℕ} {bytes : List ℕ} {y : Host} → o ≡ Done → length (c .values) ≡ semaphores → length (c .adjustments) ≡ semaphores
-      → process ≡ getD (x .row order) at 0 → slot ≡ getD (x .row sleepsAt) (entry process) 0 → bytes ≡ arrayIn (x .row) process → mask ≡ alteredBy 0 (operationsOf bytes)
+  pub settle-done : (c : Copies) {o : Outcome} {process slot mask : ℕ} {y : Host} → o ≡ Done → length (c .values) ≡ semaphores → length (c .adjustments) ≡ semaphores
+      → process ≡ getD (x .row order) at 0 → slot ≡ getD (x .row sleepsAt) (entry process) 0 → mask ≡ getD (x .row names) (entry process) 0
       → y ≡ withCopies x process slot mask c → y ≡ tabled x (after (tableIn x) (getD (queueIn (x .row)) at noSleeper) o c)
   unfolding after
-  settle-done c {o} {process} {slot} {mask} {bytes} eo lv lu ep es eb em ey =
+  settle-done c {o} {process} {slot} {mask} eo lv lu ep es em ey =
       let p : process ≡ sleeper .process = ep ∙ settled-process in
       let s : slot ≡ sleeper .slot = es ∙ ap (λ (n : ℕ). getD (x .row sleepsAt) (entry n) 0) ep ∙ settled-slot in
-      let b : bytes ≡ sleeper .array = eb ∙ ap (arrayIn (x .row)) ep ∙ settled-array in
-      let m : mask ≡ alteredBy 0 (operationsOf (sleeper .array)) = em ∙ ap (λ (l : List ℕ). alteredBy 0 (operationsOf l)) b in
+      let m : mask ≡ named sleeper = em ∙ ap (λ (n : ℕ). getD (x .row names) (entry n) 0) ep ∙ settled-names in
       ey ∙ ap₂ (λ (u v : ℕ). withCopies x u v mask c) p s
       ∙ copies-applied x (sized-good x (k .good)) sleeper (k .fits .slot) (record { least = k .fits .process; most = k .fits .last }) (k .numbered) c lv lu mask m
       ∙ rw eo

@@ -28,7 +28,6 @@ use host::set_at;
 use host::slot_at;
 use host::slot_byte;
 use host::values_of;
-use judging::altered_of;
 use judging::finishes;
 use judging::judge;
 use model::ALL_ADJUSTMENTS;
@@ -114,7 +113,7 @@ fn settle(
         Outcome::Done => {
             let process = process_at(&*host, at);
             let slot = slot_at(&*host, process);
-            let mask = altered_of(array_of(&*host, process));
+            let mask = names_at(&*host, process);
             apply(host, adjustments, process, slot, mask, values, undo);
         }
         _ => {}

@@ -21,6 +21,7 @@ mod tally;
 mod traffic;
 mod versus;
 mod work;
+mod zeros;
 
 use std::process::ExitCode;
 

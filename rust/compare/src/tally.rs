@@ -6,6 +6,7 @@ use second::RunFile;
 
 use crate::check::Texts;
 use crate::events::{self, EventKind, EVENTS};
+use crate::zeros::{When, Zeros, WHENS};
 
 const BAD: [i32; 4] = [201, 202, 203, 204];
 /// Files of more bytes than this count as long.
@@ -26,6 +27,8 @@ pub struct Tally {
     wakings: Counts<(usize, i32)>,
     quick_looks: Counts<i32>,
     plain_looks: Counts<i32>,
+    /// Queries that show a last process set by an amount of 0.
+    by_zero: Counts<When>,
 }
 
 fn number(field: Option<&str>) -> i32 {
@@ -45,8 +48,12 @@ impl Tally {
         if let Some(code) = first.strip_prefix("bad ") {
             *self.bad.entry(number(Some(code))).or_default() += 1;
         } else if let Ok(run) = RunFile::read(file) {
-            for (body, (quick, plain)) in run.bodies().zip(lines) {
+            let mut zeros = Zeros::default();
+            for ((body, event), (quick, plain)) in run.bodies().zip(run.events()).zip(lines) {
                 self.add_line(events::place(body), quick, plain);
+                if let Some(when) = zeros.follow(event, quick) {
+                    *self.by_zero.entry(when).or_default() += 1;
+                }
             }
         }
     }
@@ -76,6 +83,7 @@ impl Tally {
         add_all(&mut self.wakings, other.wakings);
         add_all(&mut self.quick_looks, other.quick_looks);
         add_all(&mut self.plain_looks, other.plain_looks);
+        add_all(&mut self.by_zero, other.by_zero);
     }
 
     /// The whole count as a table.
@@ -101,6 +109,9 @@ impl Tally {
         }
         row("looks, quick rule", entries(self.quick_looks.iter()));
         row("looks, plain rule", entries(self.plain_looks.iter()));
+        let count = |when| self.by_zero.get(&when).copied().unwrap_or(0);
+        let by_zero = WHENS.map(|(when, name)| format!("{name}: {:<7} ", count(when)));
+        row("last set by 0", by_zero.concat());
         row("bad files", entries(self.bad.iter()));
         table
     }
@@ -116,6 +127,8 @@ impl Tally {
             let wakings = wakings.iter().filter(|code| lacking(&self.wakings, code));
             missing.extend(wakings.map(|code| format!("a waking with {code} by {name}")));
         }
+        let whens = WHENS.iter().filter(|(when, _)| !self.by_zero.contains_key(when));
+        missing.extend(whens.map(|(_, name)| format!("a last process set by 0 {name}")));
         let bad = BAD.iter().filter(|code| !self.bad.contains_key(code));
         missing.extend(bad.map(|code| format!("bad {code}")));
         if self.long == 0 {

@@ -77,9 +77,7 @@ impl Set {
         self.values = trial.values;
         self.adjustments[process.index()] = trial.adjustments;
         for operation in array.operations() {
-            if operation.amount != 0 {
-                self.last[usize::from(operation.number)] = process.number();
-            }
+            self.last[usize::from(operation.number)] = process.number();
         }
         (outcome, changed)
     }

@@ -57,7 +57,7 @@ impl fmt::Display for Answer {
 pub struct Semaphore {
     /// 0 to 32,767.
     pub value: u16,
-    /// The process that altered it last by an operation other than zero; 0 if none did.
+    /// The last process whose operations named it and were done; 0 if none were since its creation.
     pub last: u8,
     /// How many wait here for an increase.
     pub increase: u32,

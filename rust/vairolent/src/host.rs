@@ -122,8 +122,9 @@ impl Host {
     ///
     /// They are judged in order, on a copy of the set's values and of the process's adjustments;
     /// the first that stops, or would leave a range, decides. If it stops, the process sleeps, and
-    /// nothing else changes. If none does, the copy becomes the state, the process the last of each
-    /// semaphore with an operation other than zero, and [sleepers are woken](Host).
+    /// nothing else changes. If none does, the copy becomes the state, the process the last of every
+    /// semaphore that they name, amounts of 0 included, and [sleepers are woken](Host); one whose
+    /// operations are done then becomes the last of those that they name.
     ///
     /// # Errors
     ///

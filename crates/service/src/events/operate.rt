@@ -10,8 +10,8 @@ use crate::events::told;
 use host::HOST_BYTES;
 use host::adjustments_of;
 use host::values_of;
-use judging::altered_of;
 use judging::judge;
+use judging::names_of;
 use judging::slot_of;
 use model::ALL_ADJUSTMENTS;
 use model::Engine;
@@ -51,7 +51,7 @@ pub fn operate(
     let outcome = verdict.outcome;
     match outcome {
         Outcome::Done => {
-            let mask = altered_of(bytes);
+            let mask = names_of(bytes);
             apply(
                 &mut *host,
                 &mut *adjustments,

@@ -20,24 +20,20 @@ process-at-requires c κs = search needs
 slot-at-requires : tie.Need-slot-at-requires
 slot-at-requires c κs = search needs
 
-array-of-requires : tie.Need-array-of-requires
-array-of-requires c κs = search needs
-
-altered-of-requires : tie.Need-altered-of-requires
-altered-of-requires c κs = search needs
+names-at-requires : tie.Need-names-at-requires
+names-at-requires c κs = search needs
 
 apply-requires : tie.Need-apply-requires
 apply-requires c κs = search needs
 
 returns : tie.Need-returns
 returns c =
-    let a = c .before .before .before .before .before .before .before .before .before .before .before .before in
+    let a = c .before .before .before .before .before .before .before .before .before .before .before in
     let v : length (a .args .values) ≡ semaphores = search needs in
     let u : length (a .args .undo) ≡ semaphores = search needs in
     settle-done (hostIn (a .args .host .now) (a .args .adjustments .now)) (a .args .at) (a .pre) (record { values = a .args .values; adjustments = a .args .undo })
-    (c .before .before .before .before .before .before .before .before .before .before .enum-told .given .1) v u
-    (c .before .before .before .before .before .before .before .before .process-at .ensures) (c .before .before .before .before .before .before .slot-at .ensures)
-    (c .before .before .before .before .array-of .ensures) (c .before .before .before .altered-of .ensures) (c .apply .ensures)
+    (c .before .before .before .before .before .before .before .before .before .enum-told .given .1) v u
+    (c .before .before .before .before .before .before .before .process-at .ensures) (c .before .before .before .before .before .slot-at .ensures) (c .before .before .before .names-at .ensures) (c .apply .ensures)
 
 returns-2 : tie.Need-returns-2
 returns-2 c =
@@ -52,8 +48,7 @@ settle-spec =
     enum-told
     process-at-requires
     slot-at-requires
-    array-of-requires
-    altered-of-requires
+    names-at-requires
     apply-requires
     returns
     returns-2)

@@ -158,3 +158,24 @@ fn situation_13_eight_is_the_limit() {
         (operate(1, 0, &[(8, 0, 0)]), "27 0 0"),
     ]);
 }
+
+#[test]
+fn situation_14_a_zero_operation_sets_the_last_process() {
+    check_on_a_set(&[
+        (query(0, 0), "0 0 0 0 0"),
+        (operate(4, 0, &[(0, 0, 0)]), "0 0 0"),
+        (query(0, 0), "0 0 4 0 0"),
+    ]);
+}
+
+#[test]
+fn situation_15_so_does_one_that_is_woken() {
+    check_on_a_set(&[
+        (set_value(0, 0, 1), "0 0 0"),
+        (operate(2, 0, &[(0, 0, 0), (1, 0, 0)]), "-1 0 0"),
+        (query(0, 1), "0 0 0 0 0"),
+        (operate(3, 0, &[(0, -1, 0)]), "0 0 1 2=0"),
+        (query(0, 0), "0 0 2 0 0"),
+        (query(0, 1), "0 0 2 0 0"),
+    ]);
+}

@@ -56,6 +56,18 @@ fn done_by_an_exit() {
 }
 
 #[test]
+fn the_last_process_of_all_that_is_named() {
+    let (mut host, set) = with_set(3);
+    let lasts = |host: &Host| [0, 1, 2].map(|number| host.query(set, number).expect("seen").last);
+    done(&mut host, 4, set, &[Operation::new(0, 0), Operation::new(1, 1)]);
+    assert_eq!(lasts(&host), [4, 4, 0]);
+    sleep(&mut host, set, &[2], &[Operation::new(0, 0), Operation::new(1, 0)]);
+    assert_eq!(lasts(&host), [4, 4, 0]);
+    assert_eq!(listed(done(&mut host, 3, set, &[Operation::new(1, -1)])), [(2, Ending::Done)]);
+    assert_eq!(lasts(&host), [2, 2, 0]);
+}
+
+#[test]
 fn refused_while_asleep() {
     let (mut host, set) = with_set(2);
     sleep(&mut host, set, &[1], &[TAKE, Operation::new(1, 0).nowait()]);

@@ -1,4 +1,4 @@
--- The invariant: the bits of the operations from here, with those gathered, are the bits of all.
+-- The invariant: the mask with the bits of the operations from here is the mask of all.
 use borrow.Author.Needs.{needs}
 use mathlib.Core.Path.{_≡_, sym, _∙_}
 use native.Mathlib.Omega.{arith}
@@ -38,12 +38,12 @@ loop-again : tie.Need-loop-again Inv-loop μ-loop
 loop-again c =
     let r = c .before in
     let l = r .before .before .loop in
-    (search needs, rw (c .number-bit .ensures) (more _ _ (l .mask) (l .i) (r .operation-at .result) (r .before .loop-test .taken) (r .operation-at .ensures)) ∙ l .inv .1)
+    (search needs, rw (c .number-bit .ensures) (more _ (l .mask) (l .i) (r .operation-at .result) (r .before .loop-test .taken) (r .operation-at .ensures)) ∙ l .inv .1)
 
 returns : tie.Need-returns Inv-loop μ-loop
 returns c =
     let l = c .before .loop in
-    sym (done _ _ (l .mask) (l .i) (omega arith)) ∙ l .inv .1
+    sym (done _ (l .mask) (l .i) (omega arith)) ∙ l .inv .1
 
 pub names-of-spec : {M : Type 1} → statement M
 names-of-spec =

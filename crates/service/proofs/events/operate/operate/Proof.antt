@@ -11,6 +11,7 @@ use Rattle.model.specs.Checks.{slotOf, checkOperate}
 use Rattle.model.specs.Look.{valuesOf, adjustmentsOf, applied}
 use Rattle.model.specs.Events.{call, doOperate}
 use Rattle.host.specs.Holding.{Host, hostIn, stateIn, tableIn}
+use Rattle.judging.proofs.NamedLaws.{named-within}
 use Rattle.judging.proofs.WalkLaws.{walked}
 use Rattle.service_checks.proofs.FoundSets.{slot-within}
 use Rattle.service_table.specs.Written.{tabled}
@@ -72,9 +73,10 @@ table c =
     let s = c .before .before .before .before .before .before .before .before .before .before .before .before .before .before .before .before .before .before .before .before in
     let z = none (c .before .before .before .before .before .before .before .before .before .before .before .before .before .before) in
     let n = sizes (c .before .before .before .before .before .before) in
+    let numbers = call-numbered (x s) (s .pre) _ _ _ z in
     rw (slot (c .before .before .before .before .before .before .before .before .before .before .before .before .before)) at (c .apply .ensures)
     ∙ copies-applied (x s) (sized-good (x s) (held-invariant (x s) (s .pre) .good)) (call (s .args .process) (s .args .identifier) (s .args .bytes .now)) (slot-within (s .args .identifier))
-    (call-process (x s) (s .pre) _ _ _ z) (call-numbered (x s) (s .pre) _ _ _ z) _ (n .0) (n .1) _ (c .before .before .before .altered-of .ensures)
+    (call-process (x s) (s .pre) _ _ _ z) numbers _ (n .0) (n .1) _ (c .before .before .before .names-of .ensures ∙ named-within 0 _ numbers)
 
 clear-requires : tie.Need-clear-requires
 clear-requires c κs = search needs
@@ -104,8 +106,8 @@ judge-requires c κs = search needs
 enum-told : tie.Need-enum-told
 enum-told c = search needs
 
-altered-of-requires : tie.Need-altered-of-requires
-altered-of-requires c κs = search needs
+names-of-requires : tie.Need-names-of-requires
+names-of-requires c κs = search needs
 
 apply-requires : tie.Need-apply-requires
 apply-requires c κs = search needs
@@ -188,7 +190,7 @@ operate-spec =
     adjustments-of-requires
     judge-requires
     enum-told
-    altered-of-requires
+    names-of-requires
     apply-requires
     differing-mask-requires
     nobody-requires
