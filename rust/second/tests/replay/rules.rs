@@ -84,7 +84,7 @@ fn only_a_done_array_sets_the_last_process() {
         (operate(4, 0, &[(0, 0, NOWAIT), (3, -1, 0)]), "-1 0 0"),
         (operate(5, 0, &[(2, 0, 0), (3, -1, 0)]), "-1 0 0"),
         (set_value(0, 1, 2), "0 0 1/3 3=34"),
-        (set_value(0, 0, 1), "0 0 1/3 4=11"),
+        (set_value(0, 0, 1), "0 0 1/2 4=11"),
         (signal(5), "0 0 0 5=4"),
         (exit(1), "0 0 0"),
         (query(0, 0), "0 1 1 0 0"),
