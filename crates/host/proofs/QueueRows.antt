@@ -9,13 +9,12 @@ use lib.Seq.{sets, paste, take-at, take-all, set-append-seam, append-snoc, ext-g
 use Rattle.model.specs.declared.Set.{Set}
 use Rattle.model.specs.Limits.{processes, arrayBytes}
 use Rattle.model.specs.State.{Sleeper, noSleeper}
-use Rattle.model.specs.Marks.{named}
 use Rattle.model.specs.Waking.{without}
 use Rattle.model.specs.Runs.{All}
 use Rattle.model.specs.Invariant.{Fits, Distinct}
 use Rattle.model.proofs.Lists.{all-map, all-at, all-without, length-without}
 use Rattle.model.proofs.QueueLaws.{distinct-without, others-without, fits-few}
-use Rattle.host.specs.Parts.{asleep, order, sleepsAt, sizes, names, arrays, Row, with, put}
+use Rattle.host.specs.Parts.{asleep, order, sleepsAt, sizes, arrays, Row, with, put}
 use Rattle.host.specs.Holding.{byProcess, blocksFrom, orderOf, theSlot, theSize, Kept, kept, withQueue, entry, arrayIn, sleeperIn, queueIn}
 use Rattle.host.specs.Queue.{Room, Queued}
 use Rattle.host.proofs.PartLaws.{by-groups}
@@ -127,7 +126,8 @@ module _ (q : List Sleeper) (f : Queued q) (i : ℕ) (h : i < length q) where
   pub room-at : Room (getD q i noSleeper)
   room-at = all-at q i noSleeper (f .rooms) h
 
-  own : (g : Sleeper → ℕ) → getD (byProcess g processes 1 q) (entry (getD q i noSleeper .process)) 0 ≡ g (getD q i noSleeper)
+  -- what it keeps by its process
+  pub own : (g : Sleeper → ℕ) → getD (byProcess g processes 1 q) (entry (getD q i noSleeper .process)) 0 ≡ g (getD q i noSleeper)
   own g =
       rw (entry-is (sleeper .process) (room-at .process))
       (of-process g q (sleeper .process) (room-at .process) (room-at .last) ∙ of-own 0 g q i (f .distinct) h)
@@ -139,9 +139,6 @@ module _ (q : List Sleeper) (f : Queued q) (i : ℕ) (h : i < length q) where
     -- what stands by its process
     pub slot-read : getD (withQueue r q sleepsAt) (entry (getD q i noSleeper .process)) 0 ≡ getD q i noSleeper .slot
     slot-read = own theSlot
-
-    pub names-read : getD (withQueue r q names) (entry (getD q i noSleeper .process)) 0 ≡ named (getD q i noSleeper)
-    names-read = own named
 
     pub size-read : getD (withQueue r q sizes) (entry (getD q i noSleeper .process)) 0 ≡ length (getD q i noSleeper .array)
     size-read = own theSize

@@ -10,7 +10,7 @@ use Rattle.model.specs.declared.Copies.{Copies}
 use Rattle.model.specs.declared.Waking.{Waking}
 use Rattle.model.specs.declared.Outcome.{Outcome}
 use Rattle.model.specs.declared.Outcome.the-variants.{Done, Sleep, Again, Range}
-use Rattle.model.specs.Limits.{semaphores}
+use Rattle.model.specs.Limits.{semaphores, processes}
 use Rattle.model.specs.State.{Table, Sleeper, noSleeper, row}
 use Rattle.model.specs.Operation.{operationsOf}
 use Rattle.model.specs.Judge.{judged, codeOf, finishes}
@@ -18,11 +18,11 @@ use Rattle.model.specs.Look.{look, after, valuesOf, adjustmentsOf}
 use Rattle.model.specs.Marks.{named}
 use Rattle.model.specs.Waking.{without, waking, finish}
 use Rattle.model.specs.Invariant.{Good, Fits}
-use Rattle.host.specs.Parts.{order, sleepsAt, names, Row}
+use Rattle.host.specs.Parts.{Part, order, sleepsAt, names, Row}
 use Rattle.host.specs.Rows.{from, undoAt}
-use Rattle.host.specs.Holding.{Host, withQueue, withTable, entry, arrayIn, asleepIn, setsIn, queueIn, tableIn}
+use Rattle.host.specs.Holding.{Host, byProcess, theSlot, withQueue, withTable, entry, arrayIn, asleepIn, setsIn, queueIn, tableIn}
 use Rattle.host.specs.Queue.{QueueHeld}
-use Rattle.host.proofs.QueueRows.{order-at, slot-read, names-read, array-read-back}
+use Rattle.host.proofs.QueueRows.{order-at, own, array-read-back}
 use Rattle.judging.specs.Walk.{walkFrom}
 use Rattle.service_table.specs.Numbered.{Numbered}
 use Rattle.service_table.specs.Written.{tabled, withCopies}
@@ -38,17 +38,14 @@ module _ (x : Host) (at : ℕ) (k : Settleable x at) where
   pub settled-process : getD (x .row order) at 0 ≡ getD (queueIn (x .row)) at noSleeper .process
   settled-process = ap (λ (y : Row). getD (y order) at 0) (k .holding .holds) ∙ order-at (queueIn (x .row)) at (k .there)
 
-  pub settled-slot : getD (x .row sleepsAt) (entry (getD (x .row order) at 0)) 0 ≡ getD (queueIn (x .row)) at noSleeper .slot
-  settled-slot =
-      ap (λ (p : ℕ). getD (x .row sleepsAt) (entry p) 0) settled-process
-      ∙ ap (λ (y : Row). getD (y sleepsAt) (entry (sleeper .process)) 0) (k .holding .holds)
-      ∙ slot-read (queueIn (x .row)) (k .holding .fits) at (k .there) (x .row)
-
-  pub settled-names : getD (x .row names) (entry (getD (x .row order) at 0)) 0 ≡ named (getD (queueIn (x .row)) at noSleeper)
-  settled-names =
-      ap (λ (p : ℕ). getD (x .row names) (entry p) 0) settled-process
-      ∙ ap (λ (y : Row). getD (y names) (entry (sleeper .process)) 0) (k .holding .holds)
-      ∙ names-read (queueIn (x .row)) (k .holding .fits) at (k .there) (x .row)
+  -- a number that it keeps by its process, as it was read
+  settled-kept : (part : Part) (g : Sleeper → ℕ) → withQueue (x .row) (queueIn (x .row)) part ≡ byProcess g processes 1 (queueIn (x .row))
+      → {process n : ℕ} → process ≡ getD (x .row order) at 0 → n ≡ getD (x .row part) (entry process) 0 → n ≡ g (getD (queueIn (x .row)) at noSleeper)
+  settled-kept part g e ep en =
+      en ∙ ap (λ (p : ℕ). getD (x .row part) (entry p) 0) (ep ∙ settled-process)
+      ∙ ap (λ (y : Row). getD (y part) (entry (sleeper .process)) 0) (k .holding .holds)
+      ∙ ap (λ (l : List ℕ). getD l (entry (sleeper .process)) 0) e
+      ∙ own (queueIn (x .row)) (k .holding .fits) at (k .there) g
 
   pub settled-array : arrayIn (x .row) (getD (x .row order) at 0) ≡ getD (queueIn (x .row)) at noSleeper .array
   settled-array =
@@ -63,7 +60,7 @@ module _ (x : Host) (at : ℕ) (k : Settleable x at) where
     p-is = ep ∙ settled-process
 
     s-is : slot ≡ sleeper .slot
-    s-is = es ∙ ap (λ (n : ℕ). getD (x .row sleepsAt) (entry n) 0) ep ∙ settled-slot
+    s-is = settled-kept sleepsAt theSlot refl ep es
 
     b-is : bytes ≡ sleeper .array
     b-is = eb ∙ ap (arrayIn (x .row)) ep ∙ settled-array
@@ -89,8 +86,8 @@ module _ (x : Host) (at : ℕ) (k : Settleable x at) where
   unfolding after
   settle-done c {o} {process} {slot} {mask} eo lv lu ep es em ey =
       let p : process ≡ sleeper .process = ep ∙ settled-process in
-      let s : slot ≡ sleeper .slot = es ∙ ap (λ (n : ℕ). getD (x .row sleepsAt) (entry n) 0) ep ∙ settled-slot in
-      let m : mask ≡ named sleeper = em ∙ ap (λ (n : ℕ). getD (x .row names) (entry n) 0) ep ∙ settled-names in
+      let s : slot ≡ sleeper .slot = settled-kept sleepsAt theSlot refl ep es in
+      let m : mask ≡ named sleeper = settled-kept names named refl ep em in
       ey ∙ ap₂ (λ (u v : ℕ). withCopies x u v mask c) p s
       ∙ copies-applied x (sized-good x (k .good)) sleeper (k .fits .slot) (record { least = k .fits .process; most = k .fits .last }) (k .numbered) c lv lu mask m
       ∙ rw eo
