@@ -65,7 +65,7 @@ struct vairolent_told {
 struct vairolent_queried {
     int32_t code;          /* 0, or why the query is refused; then all else is 0 */
     uint16_t value;        /* 0 to 32,767 */
-    uint8_t last;          /* the last process with a done array that names it; 0 if there was none since creation */
+    uint8_t last;          /* the last process with a done array that names it, 0 if none since creation; set value and exit leave it */
     uint32_t increase;     /* how many sleepers wait for an increase */
     uint32_t zero;         /* how many wait for zero */
     uint8_t increase_mask; /* which processes wait for an increase: process p has bit p-1 */
@@ -97,9 +97,10 @@ struct vairolent_host vairolent_fresh(void);
  * which lie apart from each other and from the operations. NAME takes a whole host and hands its parts on.
  *
  * How sleepers are woken: those of the set whose arrays name a semaphore whose value changed or was set are judged
- * again, oldest first. One that no longer sleeps is woken, with 0 and its array applied, or with EAGAIN or ERANGE; then
- * those who name a semaphore whose value it changed are to be judged too, and it begins again with the oldest, until
- * nobody is left to be judged. So nobody sleeps on who could finish. */
+ * again, oldest first. One that no longer sleeps is woken, with 0 and its array applied (it is then the last process of
+ * all that the array names), or with EAGAIN or ERANGE; then those who name a semaphore whose value it changed are to be
+ * judged too, and it begins again with the oldest, until nobody is left to be judged. So nobody sleeps on who could
+ * finish. */
 
 /* Makes a set of 1 to 8 semaphores with value 0 in the lowest free slot. The masks say which processes may read it
  * (an operation with amount 0) and alter it (any other). The value told is its identifier: slot + 4 x generation,
@@ -119,8 +120,8 @@ static inline struct vairolent_told vairolent_create(struct vairolent_host *host
  * stops where the value is smaller; 0 stops where the value is not 0. With SEM_UNDO the amount is also subtracted from
  * the process's undo adjustment. The first operation that stops, or gives ERANGE, decides: where it stops the process
  * sleeps (VAIROLENT_ASLEEP) and nothing else changes. If none does the array is done, the process becomes the last of
- * every semaphore that the array names, amounts of 0 included, and sleepers are woken; one whose array is done then is
- * the last of those that it names. The archive's function takes the bytes of the operations, six for each.
+ * every semaphore that the array names, amounts of 0 included, and sleepers are woken. The archive's function takes the
+ * bytes of the operations, six for each.
  * Refused, the first that applies: ESRCH process not 1 to 8; EBUSY it is asleep; EINVAL no operations, or bytes not a
  * multiple of 6; E2BIG over 8 operations; EINVAL no such set; EFBIG a number at or above the set's count; EACCES not
  * permitted; then as the deciding operation has it: EAGAIN it stops and has IPC_NOWAIT; ERANGE a value or an adjustment

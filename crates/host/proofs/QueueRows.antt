@@ -127,8 +127,8 @@ module _ (q : List Sleeper) (f : Queued q) (i : ℕ) (h : i < length q) where
   room-at = all-at q i noSleeper (f .rooms) h
 
   -- what it keeps by its process
-  pub own : (g : Sleeper → ℕ) → getD (byProcess g processes 1 q) (entry (getD q i noSleeper .process)) 0 ≡ g (getD q i noSleeper)
-  own g =
+  pub kept-read : (g : Sleeper → ℕ) → getD (byProcess g processes 1 q) (entry (getD q i noSleeper .process)) 0 ≡ g (getD q i noSleeper)
+  kept-read g =
       rw (entry-is (sleeper .process) (room-at .process))
       (of-process g q (sleeper .process) (room-at .process) (room-at .last) ∙ of-own 0 g q i (f .distinct) h)
 
@@ -138,10 +138,10 @@ module _ (q : List Sleeper) (f : Queued q) (i : ℕ) (h : i < length q) where
   module _ (r : Row) where
     -- what stands by its process
     pub slot-read : getD (withQueue r q sleepsAt) (entry (getD q i noSleeper .process)) 0 ≡ getD q i noSleeper .slot
-    slot-read = own theSlot
+    slot-read = kept-read theSlot
 
     pub size-read : getD (withQueue r q sizes) (entry (getD q i noSleeper .process)) 0 ≡ length (getD q i noSleeper .array)
-    size-read = own theSize
+    size-read = kept-read theSize
 
     pub array-read-back : arrayIn (withQueue r q) (getD q i noSleeper .process) ≡ getD q i noSleeper .array
     unfolding arrayIn
@@ -152,7 +152,7 @@ module _ (q : List Sleeper) (f : Queued q) (i : ℕ) (h : i < length q) where
         (array-read q (sleeper .process) (room-at .process) (room-at .last) short ∙ array-own)
 
     pub sleeper-read : sleeperIn (withQueue r q) (getD q i noSleeper .process) ≡ getD q i noSleeper
-    sleeper-read = rw array-read-back (simp own)
+    sleeper-read = rw array-read-back (simp kept-read)
 
   -- .. once it is taken out
   others : Awake (getD q i noSleeper .process) (without q i)

@@ -18,7 +18,7 @@ fn number_bit(number: u16) -> u8
     }
 }
 
-// The semaphores that the operations name, those with amount 0 too.
+// The semaphores that the operations name, whatever their amounts.
 pub fn names_of(bytes: &[u8]) -> u8
     ensures { λ r. ⌜ r ≡ namedWithin 0 (operationsOf (now (bytes .entry))) ⌝ }
 {

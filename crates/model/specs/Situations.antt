@@ -1,4 +1,5 @@
--- "Situations on the reviewer's desk": a table of events and of what each must show. proofs/Situations.antt proves every row.
+-- "Situations on the reviewer's desk", and behind them the cases of later requests: a table of events and of what each must
+-- show. proofs/Situations.antt proves every row.
 use Prim.Native.Nat.{ℕ, _+_, _-_, _/_, _%_}
 use mathlib.Core.Path.{_≡_}
 use mathlib.Core.List.{List, [], _∷_, _++_, map}
@@ -275,6 +276,7 @@ situation15 =
     fresh 2
     (gives (setValue set0 0 (pos 1)) done
     ∷ gives (operate 2 set0 (op 0 (pos 0) none ++ op 1 (pos 0) none)) asleep
+    ∷ answers (query set0 0) (record { code = done; value = 1; seen = record { last = 0; increase = 0; zero = 1; increaseMask = 0; zeroMask = 2 } })
     ∷ sees (query set0 1) 0 0
     ∷ wakes (operate 3 set0 (op 0 (minus 1) none)) 1 1 (waking 2 (pos 0) ∷ [])
     ∷ sees (query set0 0) 0 2

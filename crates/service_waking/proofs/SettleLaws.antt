@@ -22,7 +22,7 @@ use Rattle.host.specs.Parts.{Part, order, sleepsAt, names, Row}
 use Rattle.host.specs.Rows.{from, undoAt}
 use Rattle.host.specs.Holding.{Host, byProcess, theSlot, withQueue, withTable, entry, arrayIn, asleepIn, setsIn, queueIn, tableIn}
 use Rattle.host.specs.Queue.{QueueHeld}
-use Rattle.host.proofs.QueueRows.{order-at, own, array-read-back}
+use Rattle.host.proofs.QueueRows.{order-at, kept-read, array-read-back}
 use Rattle.judging.specs.Walk.{walkFrom}
 use Rattle.service_table.specs.Numbered.{Numbered}
 use Rattle.service_table.specs.Written.{tabled, withCopies}
@@ -39,13 +39,13 @@ module _ (x : Host) (at : ℕ) (k : Settleable x at) where
   settled-process = ap (λ (y : Row). getD (y order) at 0) (k .holding .holds) ∙ order-at (queueIn (x .row)) at (k .there)
 
   -- a number that it keeps by its process, as it was read
-  settled-kept : (part : Part) (g : Sleeper → ℕ) → withQueue (x .row) (queueIn (x .row)) part ≡ byProcess g processes 1 (queueIn (x .row))
+  pub settled-kept : (part : Part) (g : Sleeper → ℕ) → withQueue (x .row) (queueIn (x .row)) part ≡ byProcess g processes 1 (queueIn (x .row))
       → {process n : ℕ} → process ≡ getD (x .row order) at 0 → n ≡ getD (x .row part) (entry process) 0 → n ≡ g (getD (queueIn (x .row)) at noSleeper)
   settled-kept part g e ep en =
       en ∙ ap (λ (p : ℕ). getD (x .row part) (entry p) 0) (ep ∙ settled-process)
       ∙ ap (λ (y : Row). getD (y part) (entry (sleeper .process)) 0) (k .holding .holds)
       ∙ ap (λ (l : List ℕ). getD l (entry (sleeper .process)) 0) e
-      ∙ own (queueIn (x .row)) (k .holding .fits) at (k .there) g
+      ∙ kept-read (queueIn (x .row)) (k .holding .fits) at (k .there) g
 
   pub settled-array : arrayIn (x .row) (getD (x .row order) at 0) ≡ getD (queueIn (x .row)) at noSleeper .array
   settled-array =

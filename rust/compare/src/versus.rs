@@ -89,7 +89,7 @@ fn keep(name: &str, file: &[u8]) -> std::io::Result<PathBuf> {
 fn report_missing(tally: &Tally) -> End {
     let missing = tally.missing();
     if missing.is_empty() {
-        println!("no difference; all that has to come did");
+        println!("no difference; all that has to come came");
         return End::Good;
     }
     println!("no difference, but these never came: {}", missing.join(", "));

@@ -77,7 +77,7 @@ impl<'a> Zeros<'a> {
 mod tests {
     use super::*;
     use second::event::{create, operate, query, remove, set_value, Body};
-    use second::{replay, run_file, Rule, RunFile};
+    use second::{replay, run_file, Rule, RunFile, NOWAIT};
 
     /// What the queries of a run show.
     fn shown(bodies: &[Body]) -> Vec<Option<When>> {
@@ -98,10 +98,14 @@ mod tests {
             operate(4, 0, &[(0, 0, 0), (1, 1, 0)]),
             query(0, 0),
             query(0, 1),
-            operate(4, 0, &[(1, 0, 2048)]),
+            // Refused: it sets no last process.
+            operate(5, 0, &[(1, -2, NOWAIT)]),
             query(0, 1),
+            // The same process: the line is the same without it.
+            operate(4, 0, &[(0, 1, 0), (0, -1, 0), (0, 0, 0)]),
+            query(0, 0),
         ];
-        assert_eq!(shown(&run), [Some(When::AtOnce), None, None]);
+        assert_eq!(shown(&run), [Some(When::AtOnce), None, None, None]);
     }
 
     #[test]
@@ -116,6 +120,18 @@ mod tests {
             query(0, 1),
         ];
         assert_eq!(shown(&run), [None, Some(When::AtWaking), Some(When::AtWaking)]);
+    }
+
+    #[test]
+    fn each_set_by_itself() {
+        let run = [
+            create(1, 255, 255),
+            create(1, 255, 255),
+            operate(4, 1, &[(0, 0, 0)]),
+            query(0, 0),
+            query(1, 0),
+        ];
+        assert_eq!(shown(&run), [None, Some(When::AtOnce)]);
     }
 
     #[test]

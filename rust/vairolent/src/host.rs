@@ -21,9 +21,10 @@ use crate::wakings::Wakings;
 ///
 /// After an operate that is done, a set value or an exit, those sleepers of the set are judged again
 /// whose operations name a semaphore whose value changed or was set, oldest first. One that no longer
-/// sleeps is woken: done and applied, or with an error of its own. Then those who name a semaphore
-/// whose value it changed are to be judged too, and it begins again with the oldest, until nobody is
-/// left to be judged. Each judging is a look. So nobody sleeps on who could finish.
+/// sleeps is woken: done and applied, the last process of all that they name, or with an error of its
+/// own. Then those who name a semaphore whose value it changed are to be judged too, and it begins
+/// again with the oldest, until nobody is left to be judged. Each judging is a look. So nobody sleeps
+/// on who could finish.
 ///
 /// # Equality
 ///
@@ -123,8 +124,7 @@ impl Host {
     /// They are judged in order, on a copy of the set's values and of the process's adjustments;
     /// the first that stops, or would leave a range, decides. If it stops, the process sleeps, and
     /// nothing else changes. If none does, the copy becomes the state, the process the last of every
-    /// semaphore that they name, amounts of 0 included, and [sleepers are woken](Host); one whose
-    /// operations are done then becomes the last of those that they name.
+    /// semaphore that they name, amounts of 0 included, and [sleepers are woken](Host).
     ///
     /// # Errors
     ///

@@ -72,12 +72,12 @@ fn set_value_to_the_same_number_can_wake() {
     ]);
 }
 
-/// Not by a refused array, nor by a sleeper's that ends with 34, 11, 4 or 43; a set value and an
-/// exit leave it too.
+/// A refused array doesn't, nor one that ends with 34, 11 or 4, a set value or an exit.
 #[test]
 fn only_a_done_array_sets_the_last_process() {
     check_on_a_set(&[
-        (operate(1, 0, &[(0, 0, 0), (1, 1, UNDO), (2, 0, 0)]), "0 0 0"),
+        (operate(6, 0, &[(4, 1, UNDO)]), "0 0 0"),
+        (operate(1, 0, &[(0, 0, 0), (1, 1, 0), (2, 0, 0), (4, 1, 0)]), "0 0 0"),
         (operate(2, 0, &[(0, 0, 0), (3, -1, NOWAIT)]), "11 0 0"),
         (operate(2, 0, &[(0, 0, 0), (1, 32_767, 0)]), "34 0 0"),
         (operate(3, 0, &[(1, 32_766, 0), (3, -1, 0)]), "-1 0 0"),
@@ -86,11 +86,12 @@ fn only_a_done_array_sets_the_last_process() {
         (set_value(0, 1, 2), "0 0 1/3 3=34"),
         (set_value(0, 0, 1), "0 0 1/2 4=11"),
         (signal(5), "0 0 0 5=4"),
-        (exit(1), "0 0 0"),
+        (exit(6), "0 0 0"),
         (query(0, 0), "0 1 1 0 0"),
         (query(0, 1), "0 2 1 0 0"),
         (query(0, 2), "0 0 1 0 0"),
         (query(0, 3), "0 0 0 0 0"),
+        (query(0, 4), "0 1 1 0 0"),
     ]);
 }
 

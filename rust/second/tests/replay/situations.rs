@@ -173,6 +173,7 @@ fn situation_15_so_does_one_that_is_woken() {
     check_on_a_set(&[
         (set_value(0, 0, 1), "0 0 0"),
         (operate(2, 0, &[(0, 0, 0), (1, 0, 0)]), "-1 0 0"),
+        (query(0, 0), "0 1 0 0 1"),
         (query(0, 1), "0 0 0 0 0"),
         (operate(3, 0, &[(0, -1, 0)]), "0 0 1 2=0"),
         (query(0, 0), "0 0 2 0 0"),
