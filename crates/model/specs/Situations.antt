@@ -1,5 +1,5 @@
--- "Situations on the reviewer's desk", and behind them the cases of later requests: a table of events and of what each must
--- show. proofs/Situations.antt proves every row.
+-- "Situations on the reviewer's desk", and from 14 on those that show rules of document 02: a table of events and of what each
+-- must show. proofs/Situations.antt proves every row.
 use Prim.Native.Nat.{ℕ, _+_, _-_, _/_, _%_}
 use mathlib.Core.Path.{_≡_}
 use mathlib.Core.List.{List, [], _∷_, _++_, map}
