@@ -65,7 +65,7 @@ struct vairolent_told {
 struct vairolent_queried {
     int32_t code;          /* 0, or why the query is refused; then all else is 0 */
     uint16_t value;        /* 0 to 32,767 */
-    uint8_t last;          /* the last process with a done array that names it, 0 if none since creation; set value and exit leave it */
+    uint8_t last;          /* the last process whose done array names it, 0 if none; set value and exit leave it */
     uint32_t increase;     /* how many sleepers wait for an increase */
     uint32_t zero;         /* how many wait for zero */
     uint8_t increase_mask; /* which processes wait for an increase: process p has bit p-1 */

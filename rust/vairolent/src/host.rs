@@ -21,10 +21,10 @@ use crate::wakings::Wakings;
 ///
 /// After an operate that is done, a set value or an exit, those sleepers of the set are judged again
 /// whose operations name a semaphore whose value changed or was set, oldest first. One that no longer
-/// sleeps is woken: done and applied, the last process of all that they name, or with an error of its
-/// own. Then those who name a semaphore whose value it changed are to be judged too, and it begins
-/// again with the oldest, until nobody is left to be judged. Each judging is a look. So nobody sleeps
-/// on who could finish.
+/// sleeps is woken: with its operations applied, and then it is the last process of all that they
+/// name, or with an error of its own. Then those who name a semaphore whose value it changed are to be
+/// judged too, and it begins again with the oldest, until nobody is left to be judged. Each judging is
+/// a look. So nobody sleeps on who could finish.
 ///
 /// # Equality
 ///
