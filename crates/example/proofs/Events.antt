@@ -15,7 +15,7 @@ use Rattle.model.specs.Judge.{nextValue, nextAdjustment, step, goOn, judgeFrom,
 use Rattle.model.specs.Look.{valuesOf, adjustmentsOf, look, lastsAfter, applied, after}
 use Rattle.model.specs.Marks.{unmark, marked, namedBy, differing, mine, maskOf}
 use Rattle.model.specs.Waking.{without, finish, plainRound, quickRound, plain, quick, waker}
-use Rattle.model.specs.Checks.{identifierOf, slotOf, namesSet, noProcess, asleep, numberTooHigh, permitted, freeFrom, checkCreate, checkOperate, checkNumber, inRange, checkSetValue, checkRemove, checkProcess}
+use Rattle.model.specs.Checks.{identifierOf, slotOf, namesSet, noProcess, asleep, numberTooHigh, permitted, freeFrom, checkCreate, checkOperate, checkNumber, inRange, checkSetValue, checkSet, checkProcess}
 use Rattle.model.specs.Events.{Result, create, operate, clearNumber, assigned, cut, undoAll, exited, keep, endedWith, doCreate, operated, doOperate, doSetValue, doRemove, treat, treatFrom, touchedFrom, doExit, doQuery, event}
 
 -- one off semaphore 0, and one back
@@ -66,13 +66,13 @@ is-given e r = r ∙ ap (λ (s : State). afterOf (doOperate (waker Quick) s 2 (p
 -- ---- what the three events give, computed
 
 pub slept-looks : slept .looks ≡ 0
-unfolding event doCreate operated doOperate doSetValue doRemove treat treatFrom touchedFrom doExit doQuery identifierOf slotOf namesSet noProcess asleep numberTooHigh permitted freeFrom checkCreate checkOperate checkNumber inRange checkSetValue checkRemove checkProcess clearRows cleared clearNumber assigned cut undoAll exited keep endedWith waker plain quick plainRound quickRound finish without look lastsAfter applied after valuesOf adjustmentsOf judgeFrom goOn step nextValue nextAdjustment codeOf finishes operationsFrom signed16 isZero unmark marked namedBy differing mine maskOf
+unfolding event doCreate operated doOperate doSetValue doRemove treat treatFrom touchedFrom doExit doQuery identifierOf slotOf namesSet noProcess asleep numberTooHigh permitted freeFrom checkCreate checkOperate checkNumber inRange checkSetValue checkSet checkProcess clearRows cleared clearNumber assigned cut undoAll exited keep endedWith waker plain quick plainRound quickRound finish without look lastsAfter applied after valuesOf adjustmentsOf judgeFrom goOn step nextValue nextAdjustment codeOf finishes operationsFrom signed16 isZero unmark marked namedBy differing mine maskOf
 slept-looks = refl
 
 pub given-looks : given .looks ≡ 1
-unfolding event doCreate operated doOperate doSetValue doRemove treat treatFrom touchedFrom doExit doQuery identifierOf slotOf namesSet noProcess asleep numberTooHigh permitted freeFrom checkCreate checkOperate checkNumber inRange checkSetValue checkRemove checkProcess clearRows cleared clearNumber assigned cut undoAll exited keep endedWith waker plain quick plainRound quickRound finish without look lastsAfter applied after valuesOf adjustmentsOf judgeFrom goOn step nextValue nextAdjustment codeOf finishes operationsFrom signed16 isZero unmark marked namedBy differing mine maskOf
+unfolding event doCreate operated doOperate doSetValue doRemove treat treatFrom touchedFrom doExit doQuery identifierOf slotOf namesSet noProcess asleep numberTooHigh permitted freeFrom checkCreate checkOperate checkNumber inRange checkSetValue checkSet checkProcess clearRows cleared clearNumber assigned cut undoAll exited keep endedWith waker plain quick plainRound quickRound finish without look lastsAfter applied after valuesOf adjustmentsOf judgeFrom goOn step nextValue nextAdjustment codeOf finishes operationsFrom signed16 isZero unmark marked namedBy differing mine maskOf
 given-looks = refl
 
 pub given-wakings : length (given .wakings) ≡ 1
-unfolding event doCreate operated doOperate doSetValue doRemove treat treatFrom touchedFrom doExit doQuery identifierOf slotOf namesSet noProcess asleep numberTooHigh permitted freeFrom checkCreate checkOperate checkNumber inRange checkSetValue checkRemove checkProcess clearRows cleared clearNumber assigned cut undoAll exited keep endedWith waker plain quick plainRound quickRound finish without look lastsAfter applied after valuesOf adjustmentsOf judgeFrom goOn step nextValue nextAdjustment codeOf finishes operationsFrom signed16 isZero unmark marked namedBy differing mine maskOf
+unfolding event doCreate operated doOperate doSetValue doRemove treat treatFrom touchedFrom doExit doQuery identifierOf slotOf namesSet noProcess asleep numberTooHigh permitted freeFrom checkCreate checkOperate checkNumber inRange checkSetValue checkSet checkProcess clearRows cleared clearNumber assigned cut undoAll exited keep endedWith waker plain quick plainRound quickRound finish without look lastsAfter applied after valuesOf adjustmentsOf judgeFrom goOn step nextValue nextAdjustment codeOf finishes operationsFrom signed16 isZero unmark marked namedBy differing mine maskOf
 given-wakings = refl

@@ -9,14 +9,14 @@ use mathlib.Core.Bool.{Bool, true, false, cond, _||_}
 use mathlib.Core.List.{List, [], _∷_}
 use borrow.Author.Tests.{ltb-false, leb-false, eqb-false, le-ltb, lt-leb, ne-eqb}
 use lib.Dec.{eqb, ltb, leb}
-use lib.ListN.{length, getD, set, take, drop, replicate, length-take, length-set}
+use lib.ListN.{length, getD, set, take, drop, replicate, length-take, length-set, drop-of-length-le}
 use lib.Seq.{sets, take-take, take-nil, drop-drop, drop-cons, take-all}
 use Rattle.model.specs.Limits.{slots, semaphores, processes, arrayBytes, allAdjustments}
 use Rattle.model.specs.State.{undoRow}
 use Rattle.model.specs.Checks.{noProcess}
 use Rattle.host.specs.Parts.{Part, sizes, arrays, place, hostBytes, numberAt, bytesOf, numbersFrom, Row, rowIn, with, put}
 use Rattle.host.specs.Rows.{undoAt}
-use Rattle.host.specs.Holding.{entry, arrayIn}
+use Rattle.host.specs.Holding.{entry, roomIn, arrayIn}
 use Rattle.host.proofs.Numbers.{one-byte}
 use Rattle.host.proofs.PartLaws.{width, count, spot, inside, less-or-not, length-part, read-part, read-beyond, write-part, write-beyond, with-again, with-same, with-here}
 use Rattle.host.proofs.RowLaws.{sets-more, sets-beyond}
@@ -134,14 +134,29 @@ take-min m n l = ⊎-elim
 
 -- the array that a process sleeps on, and none beyond the processes
 module _ (h : List ℕ) (p i : ℕ) (e : i ≡ entry p) where
-  pub array-there : (n size : ℕ) → length h ≡ hostBytes → i < processes → size ≡ getD (rowIn h sizes) (entry p) 0 → n ≡ min arrayBytes size
-      → take (place arrays .at + arrayBytes * i + n - (place arrays .at + arrayBytes * i)) (drop (place arrays .at + arrayBytes * i) h) ≡ arrayIn (rowIn h) p
-  unfolding arrayIn
-  array-there n size long l es en =
+  -- `&all[from..to]`
+  abbrev lent : ℕ → List ℕ
+  lent n = take (place arrays .at + arrayBytes * i + n - (place arrays .at + arrayBytes * i)) (drop (place arrays .at + arrayBytes * i) h)
+
+  lent-is : (n : ℕ) → length h ≡ hostBytes → i < processes → n ≤ arrayBytes → lent n ≡ take n (drop (arrayBytes * entry p) (rowIn h arrays))
+  lent-is n long l m =
       let d : place arrays .at + arrayBytes * i + n - (place arrays .at + arrayBytes * i) ≡ n = omega arith in
       ap (λ (k : ℕ). take k (drop (place arrays .at + arrayBytes * i) h)) d
-      ∙ sym (bytes-of-part arrays h refl long (arrayBytes * i) n (omega (arith, en, min-le-left arrayBytes size)))
-      ∙ ap₂ (λ (k m : ℕ). take k (drop (arrayBytes * m) (rowIn h arrays))) (en ∙ ap (λ (k : ℕ). min arrayBytes k) es) e
+      ∙ sym (bytes-of-part arrays h refl long (arrayBytes * i) n (omega arith))
+      ∙ ap (λ (m : ℕ). take n (drop (arrayBytes * m) (rowIn h arrays))) e
+
+  pub room-there : length h ≡ hostBytes → i < processes → lent arrayBytes ≡ roomIn (rowIn h) p
+  room-there long l = lent-is arrayBytes long l (omega arith)
+
+  pub room-none : processes ≤ i → [] ≡ roomIn (rowIn h) p
+  room-none l = ap (λ (r : List ℕ). take arrayBytes r) (sym (drop-of-length-le (rowIn h arrays) {i = arrayBytes * entry p} (omega (arith, e, length-part arrays h))))
+
+  pub array-there : (n size : ℕ) → length h ≡ hostBytes → i < processes → size ≡ getD (rowIn h sizes) (entry p) 0 → n ≡ min arrayBytes size
+      → lent n ≡ arrayIn (rowIn h) p
+  unfolding arrayIn
+  array-there n size long l es en =
+      lent-is n long l (omega (arith, en, min-le-left arrayBytes size))
+      ∙ ap (λ (k : ℕ). take k (drop (arrayBytes * entry p) (rowIn h arrays))) (en ∙ ap (λ (k : ℕ). min arrayBytes k) es)
       ∙ sym (take-min (getD (rowIn h sizes) (entry p) 0) arrayBytes (drop (arrayBytes * entry p) (rowIn h arrays)))
 
   pub array-none : processes ≤ i → [] ≡ arrayIn (rowIn h) p

@@ -109,9 +109,12 @@ entry (suc p) = p
 abbrev pub withCall : Row → ℕ → ℕ → ℕ → ℕ → Row
 withCall r p slot size mask = put (put (put r sleepsAt (entry p) slot) sizes (entry p) size) names (entry p) mask
 
--- the array that a process sleeps on
+-- the room for the array that a process sleeps on, and that array: as many of its bytes as it has
+abbrev pub roomIn : Row → ℕ → List ℕ
+roomIn r p = take arrayBytes (drop (arrayBytes * entry p) (r arrays))
+
 unfoldable pub arrayIn : Row → ℕ → List ℕ
-arrayIn r p = take (getD (r sizes) (entry p) 0) (take arrayBytes (drop (arrayBytes * entry p) (r arrays)))
+arrayIn r p = take (getD (r sizes) (entry p) 0) (roomIn r p)
 
 abbrev pub sleeperIn : Row → ℕ → Sleeper
 sleeperIn r p = record { process = p; slot = getD (r sleepsAt) (entry p) 0; array = arrayIn r p }

@@ -75,6 +75,21 @@ pub fn last_at(host: &[u8; HOST_BYTES], i: usize) -> u8
     }
 }
 
+// The last processes of a slot.
+pub fn lasts_of(host: &[u8; HOST_BYTES], slot: usize) -> [u8; SEMAPHORES]
+    ensures { λ r. ⌜ r ≡ from 0 semaphores (row slot) (rowIn (now (host .entry)) lasts) ⌝ }
+{
+    let mut out = [0u8; SEMAPHORES];
+    if slot < SETS {
+        let start = slot * SEMAPHORES;
+        for j in 0..SEMAPHORES {
+            let last = last_at(host, start + j);
+            out[j] = last;
+        }
+    }
+    out
+}
+
 // The process becomes the last of those semaphores of a slot that are in the mask.
 pub fn put_lasts(host: &mut [u8; HOST_BYTES], slot: usize, mask: u8, process: u8)
     ensures { λ _. ⌜ rowIn (now (host .exit)) ≡ with (rowIn (now (host .entry))) lasts (masked mask process semaphores (row slot) (rowIn (now (host .entry)) lasts)) ⌝ }

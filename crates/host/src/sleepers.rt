@@ -5,7 +5,7 @@ ghost use lib.ListN.{getD, take, replicate};
 ghost use lib.Seq.{sets};
 ghost use Rattle.model.specs.Limits.{arrayBytes};
 ghost use Rattle.host.specs.Parts.{asleep, order, sleepsAt, sizes, names, arrays, rowIn, with, put};
-ghost use Rattle.host.specs.Holding.{entry, withCall, arrayIn};
+ghost use Rattle.host.specs.Holding.{entry, withCall, roomIn, arrayIn};
 use crate::parts::ARRAYS_AT;
 use crate::parts::ASLEEP_AT;
 use crate::parts::HOST_BYTES;
@@ -136,6 +136,20 @@ pub fn array_of(host: &[u8; HOST_BYTES], process: u8) -> &[u8]
     }
     let from = ARRAYS_AT + ARRAY_BYTES * i;
     let to = from + fitting(size_at(host, process));
+    &all[from..to]
+}
+
+// The room for a process's array, lent from the row: the array, and zeros behind it.
+pub fn room_of(host: &[u8; HOST_BYTES], process: u8) -> &[u8]
+    ensures { λ r. ⌜ now r ≡ roomIn (rowIn (now (host .entry))) process ⌝ }
+{
+    let all: &[u8] = host;
+    let i = entry_of(process);
+    if PROCESSES <= i {
+        return &all[..0];
+    }
+    let from = ARRAYS_AT + ARRAY_BYTES * i;
+    let to = from + ARRAY_BYTES;
     &all[from..to]
 }
 

@@ -6,6 +6,7 @@ mod Steps
 mod Walking
 pub mod WalkLaws
 pub mod NamedLaws
+pub mod StopLaws
 mod Refusals
 mod Masks
 pub mod Identifiers

@@ -16,17 +16,14 @@ use Rattle.model.specs.declared.Next.the-variants.{Over, Stop, To}
 use Rattle.model.specs.Operation.{isZero, isNegative}
 use Rattle.model.specs.declared.Undo.the-variants as undo
 use Rattle.model.specs.Judge.{nextValue, nextAdjustment}
+use Rattle.judging.specs.Stop.{movedTo}
 use Rattle.judging.proofs.Signed.{clash}
-
--- where an amount leads from a value, as the code takes it: an amount of 0 takes the value off
-abbrev pub moved : ℕ → ℤ → ℤ
-moved v z = cond (isZero z) (pos 0 -ℤ pos v) (pos v +ℤ z)
 
 -- the next value by the tests of where the amount leads
 abbrev pub tested : ℤ → ℤ → Next
 tested new z = cond (ltZ new (pos 0)) Stop (cond (ltZ (pos 32767) new && ltZ (pos 0) z) Over (To (natAbs new)))
 
-pub next-is : (v : ℕ) (z : ℤ) → nextValue v z ≡ tested (moved v z) z
+pub next-is : (v : ℕ) (z : ℤ) → nextValue v z ≡ tested (movedTo v z) z
 unfolding nextValue isZero
 next-is zero (pos zero) = refl
 next-is (suc v) (pos zero) = rw (ne-eqb (suc v) 0 (λ e. omega arith), lt-ltb 0 (suc v) (omega arith))
@@ -46,7 +43,7 @@ next-is v (negsuc n) = lowered (ltb v (suc n))
     lowered false = rw (le-ltb (v - suc n) 0 (omega arith)) (either (ltb 32767 (v - suc n)))
 
 -- where an amount that is not above 0 leads can be cast to sixteen bits, if it is not below 0
-pub lowered-fits : (v : ℕ) (z : ℤ) → Fits w16 v → ltZ (moved v z) (pos 0) ≡ false → ltZ (pos 0) z ≡ false → T (nonNeg (moved v z)) × Fits w16 (natAbs (moved v z))
+pub lowered-fits : (v : ℕ) (z : ℤ) → Fits w16 v → ltZ (movedTo v z) (pos 0) ≡ false → ltZ (pos 0) z ≡ false → T (nonNeg (movedTo v z)) × Fits w16 (natAbs (movedTo v z))
 unfolding isZero
 lowered-fits zero (pos zero) f h k = (tt, record { fits = omega arith })
 lowered-fits (suc v) (pos zero) f h k = clash (sym (rw (lt-ltb 0 (suc v) (omega arith)) at h))

@@ -2,3 +2,4 @@
 pub mod Value
 pub mod Walk
 pub mod Named
+pub mod Stop

@@ -1,14 +1,16 @@
 // Judging an array of operations, and the tests that come before it.
 //
 // What is public is listed here. Each of these functions is total: it asks nothing of its caller, and its promise is an
-// equation with a definition of the crate model (`value_of`, `judge`, `names_of`: of specs/), for every argument. An array is
-// the bytes as they lie in the lent file; bytes that make no whole operation at the end are ignored, as in the definition.
+// equation with a definition of the crate model (`value_of`, `judge`, `stop_of`, `names_of`: of specs/), for every argument.
+// An array is the bytes as they lie in the lent file; bytes that make no whole operation at the end are ignored, as in the
+// definition.
 mod amount;
 mod checks;
 mod identifier;
 mod named;
 mod operation;
 mod outcome;
+mod stop;
 mod walk;
 
 pub use amount::cut;
@@ -19,8 +21,7 @@ pub use identifier::in_range;
 pub use identifier::slot_of;
 pub use identifier::value_of;
 pub use named::names_of;
-pub use operation::half;
-pub use operation::signed_of;
 pub use outcome::finishes;
+pub use stop::stop_of;
 pub use walk::Verdict;
 pub use walk::judge;

@@ -14,7 +14,7 @@ use Rattle.model.specs.declared.Operation.{Operation}
 use Rattle.model.specs.Limits.{slots, semaphores, processes, valueMax, operationBytes, arrayBytes}
 use Rattle.model.specs.State.{State, Sleeper}
 use Rattle.model.specs.Operation.{operationAt, operationsFrom, operationsOf}
-use Rattle.model.specs.Checks.{check, live, slotOf, namesSet, noProcess, numberTooHigh, freeFrom, freeSlot, checkCreate, checkOperate, checkNumber, inRange, checkSetValue, checkRemove, checkProcess}
+use Rattle.model.specs.Checks.{check, live, slotOf, namesSet, noProcess, numberTooHigh, freeFrom, freeSlot, checkCreate, checkOperate, checkNumber, inRange, checkSetValue, checkSet, checkProcess}
 use Rattle.model.specs.Events.{call}
 use Rattle.model.specs.Runs.{All, none, also}
 use Rattle.model.proofs.Lists.{first}
@@ -166,9 +166,9 @@ setValue-passes s i n v e =
     let b = passes _ 34 0 (zero-lt-suc _) (a .1) in
     record { numbered = number-passes s i n (eqb-true (checkNumber s i n) 0 (not-false _ (a .0))); value = in-range v (not-false _ (b .0)) }
 
-pub remove-passes : (s : State) (i : ℤ) → checkRemove s i ≡ 0 → Named (s .sets) i
-unfolding checkRemove
-remove-passes s i e = names-live (s .sets) i (not-false _ (passes _ 22 0 (zero-lt-suc _) e .0))
+pub set-passes : (s : State) (i : ℤ) → checkSet s i ≡ 0 → Named (s .sets) i
+unfolding checkSet
+set-passes s i e = names-live (s .sets) i (not-false _ (passes _ 22 0 (zero-lt-suc _) e .0))
 
 pub process-passes : (p : ℕ) → checkProcess p ≡ 0 → (1 ≤ p) × (p ≤ processes)
 unfolding checkProcess

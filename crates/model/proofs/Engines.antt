@@ -11,14 +11,14 @@ use Rattle.model.specs.declared.Engine.the-variants.{Plain, Quick}
 use Rattle.model.specs.Limits.{slots, allSemaphores, allAdjustments}
 use Rattle.model.specs.State.{Sleeper, State, freshState, noSet}
 use Rattle.model.specs.Waking.{waker}
-use Rattle.model.specs.Checks.{slotOf, freeSlot, checkCreate, checkNumber, checkRemove, checkProcess}
+use Rattle.model.specs.Checks.{slotOf, freeSlot, checkCreate, checkNumber, checkSet, checkProcess}
 use Rattle.model.specs.Events.{Event, create, operate, setValue, remove, signal, exit, query, event, keep, doCreate, doRemove, doSignal, doQuery, notOf, notMine}
 use Rattle.model.specs.Runs.{Run, run, Reached, start, came, none, Pairwise, end, next, Alike, EnginesAgree}
 use Rattle.model.specs.Invariant.{Fits, Invariant, alone, countAt}
 use Rattle.model.proofs.Lists.{all-map, all-replicate}
 use Rattle.model.proofs.QueueLaws.{keep-test}
 use Rattle.model.proofs.CleanLaws.{fresh-clean}
-use Rattle.model.proofs.CheckLaws.{alive, Creatable, create-passes, remove-passes}
+use Rattle.model.proofs.CheckLaws.{alive, Creatable, create-passes, set-passes}
 use Rattle.model.proofs.Agree.{slot-other}
 use Rattle.model.proofs.EventLaws.{Agrees, quiet, checked-agrees, cleared-kept, keep-kept}
 use Rattle.model.proofs.WakingEvents.{operate-agrees, setValue-agrees, exit-agrees}
@@ -38,8 +38,8 @@ create-agrees s count read alter i =
 remove-agrees : (s : State) (i : ℤ) → Invariant s → Agrees (doRemove s i) (doRemove s i)
 unfolding doRemove
 remove-agrees s j i =
-    checked-agrees (checkRemove s j) s _ _ i (λ e.
-    quiet _ refl (cleared-kept (record { sets = s .sets; table = s .table; queue = keep (notMine (slotOf j)) (s .queue) }) (slotOf j) _ (keep-kept s (notMine (slotOf j)) i) (remove-passes s j e .slot) (omega arith) (λ e. refl)
+    checked-agrees (checkSet s j) s _ _ i (λ e.
+    quiet _ refl (cleared-kept (record { sets = s .sets; table = s .table; queue = keep (notMine (slotOf j)) (s .queue) }) (slotOf j) _ (keep-kept s (notMine (slotOf j)) i) (set-passes s j e .slot) (omega arith) (λ e. refl)
     (all-map (λ c n. slot-other (slotOf j) c (not-true _ n)) (keep-test (notMine (slotOf j)) (s .queue)))))
 
 signal-agrees : (s : State) (p : ℕ) → Invariant s → Agrees (doSignal s p) (doSignal s p)

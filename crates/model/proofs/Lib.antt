@@ -16,10 +16,11 @@ pub mod Rules
 pub mod Calm
 pub mod CleanLaws
 pub mod Unmarked
--- a refused event changes nothing, the two engines agree, and the situations:
+-- a refused event changes nothing, the two engines agree, what a whole set shows, and the situations:
 pub mod Refusals
 pub mod Agree
 pub mod EventLaws
 pub mod WakingEvents
 pub mod Engines
+pub mod WholeSetLaws
 pub mod Situations

@@ -10,7 +10,7 @@ use Rattle.model.specs.declared.Engine.{Engine}
 use Rattle.model.specs.State.{State, Sleeper}
 use Rattle.model.specs.Judge.{codeOf}
 use Rattle.model.specs.Waking.{Waker, waker}
-use Rattle.model.specs.Checks.{checkCreate, checkOperate, checkNumber, checkSetValue, checkRemove, checkProcess}
+use Rattle.model.specs.Checks.{checkCreate, checkOperate, checkNumber, checkSetValue, checkSet, checkProcess}
 use Rattle.model.specs.Events.{Event, create, operate, setValue, remove, signal, exit, query, Result, refused, checked, operated, event, doCreate, doOperate, doSetValue, doRemove, doSignal, doExit, doQuery}
 use Rattle.model.specs.Runs.{RefusedWhole, Refuses}
 
@@ -40,7 +40,7 @@ unfolding event doCreate doOperate doSetValue doRemove doSignal doExit doQuery
 refused-whole engine s (create count read alter) = by-check (checkCreate s count) s _ (done _ refl)
 refused-whole engine s (operate p i bytes) = by-check (checkOperate s p i bytes) s _ (operated-refuses (waker engine) s _ _ _)
 refused-whole engine s (setValue i n v) = by-check (checkSetValue s i n v) s _ (done _ refl)
-refused-whole engine s (remove i) = by-check (checkRemove s i) s _ (done _ refl)
+refused-whole engine s (remove i) = by-check (checkSet s i) s _ (done _ refl)
 refused-whole engine s (signal p) = by-check (checkProcess p) s _ (done _ refl)
 refused-whole engine s (exit p) = by-check (checkProcess p) s _ (done _ refl)
 refused-whole engine s (query i n) = by-check (checkNumber s i n) s _ (done _ refl)

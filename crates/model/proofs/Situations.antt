@@ -7,7 +7,7 @@ use Rattle.model.specs.Look.{valuesOf, adjustmentsOf, look, lastsAfter, 
 use Rattle.model.specs.Marks.{unmark, marked, namedBy, differing, mine, maskOf}
 use Rattle.model.specs.Waking.{without, finish, plainRound, quickRound, plain, quick, waker}
 use Rattle.model.specs.Counts.{stop, stopsAt, forIncrease, forZero, countOf}
-use Rattle.model.specs.Checks.{identifierOf, slotOf, namesSet, noProcess, asleep, numberTooHigh, permitted, freeFrom, checkCreate, checkOperate, checkNumber, inRange, checkSetValue, checkRemove, checkProcess}
+use Rattle.model.specs.Checks.{identifierOf, slotOf, namesSet, noProcess, asleep, numberTooHigh, permitted, freeFrom, checkCreate, checkOperate, checkNumber, inRange, checkSetValue, checkSet, checkProcess}
 use Rattle.model.specs.State.{clearRows, cleared}
 use Rattle.model.specs.Events.{clearNumber, assigned, cut, undoAll, exited, keep, endedWith, doCreate, operated, doOperate, doSetValue, doRemove, treat, treatFrom, touchedFrom, doExit, seenAt, doQuery, event}
 use Rattle.model.specs.Runs.{run, All, none, also}
@@ -18,7 +18,7 @@ both r p q Plain = p
 both r p q Quick = q
 
 pub situations : All Holds table
-unfolding run event doCreate operated doOperate doSetValue doRemove treat treatFrom touchedFrom doExit seenAt doQuery stop stopsAt forIncrease forZero countOf identifierOf slotOf namesSet noProcess asleep numberTooHigh permitted freeFrom checkCreate checkOperate checkNumber inRange checkSetValue checkRemove checkProcess clearRows cleared clearNumber assigned cut undoAll exited keep endedWith waker plain quick plainRound quickRound finish without look lastsAfter applied after valuesOf adjustmentsOf judgeFrom goOn step nextValue nextAdjustment codeOf finishes operationsFrom signed16 isZero isNegative unmark marked namedBy differing mine maskOf
+unfolding run event doCreate operated doOperate doSetValue doRemove treat treatFrom touchedFrom doExit seenAt doQuery stop stopsAt forIncrease forZero countOf identifierOf slotOf namesSet noProcess asleep numberTooHigh permitted freeFrom checkCreate checkOperate checkNumber inRange checkSetValue checkSet checkProcess clearRows cleared clearNumber assigned cut undoAll exited keep endedWith waker plain quick plainRound quickRound finish without look lastsAfter applied after valuesOf adjustmentsOf judgeFrom goOn step nextValue nextAdjustment codeOf finishes operationsFrom signed16 isZero isNegative unmark marked namedBy differing mine maskOf
 situations =
     also (both situation1 refl refl)
     (also (both situation2 refl refl)

@@ -92,8 +92,9 @@ checkSetValue s i n v =
     check (not (eqb (checkNumber s i n) 0)) 22
     (check (not (inRange v)) 34 0)
 
-unfoldable pub checkRemove : State → ℤ → ℕ
-checkRemove s i = check (not (namesSet (s .sets) i)) 22 0
+-- remove, and a whole set: "no live set: 22"
+unfoldable pub checkSet : State → ℤ → ℕ
+checkSet s i = check (not (namesSet (s .sets) i)) 22 0
 
 -- signal, exit
 unfoldable pub checkProcess : ℕ → ℕ

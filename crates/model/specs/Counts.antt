@@ -35,3 +35,7 @@ forZero t slot number s = stopsAt t slot number s && not (isNegative (stop t s .
 unfoldable pub countOf : (Sleeper → Bool) → List Sleeper → ℕ
 countOf test [] = 0
 countOf test (s ∷ q) = cond (test s) 1 0 + countOf test q
+
+-- "how many arrays it judged: exactly the set's sleepers, each once"
+abbrev pub judgedAt : ℕ → List Sleeper → ℕ
+judgedAt slot q = countOf (mine slot) q

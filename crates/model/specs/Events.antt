@@ -20,7 +20,7 @@ use Rattle.model.specs.Judge.{codeOf}
 use Rattle.model.specs.Look.{look, applied, valuesOf}
 use Rattle.model.specs.Marks.{mine, differing, maskOf}
 use Rattle.model.specs.Waking.{World, Ended, Waker, waking}
-use Rattle.model.specs.Checks.{live, identifierOf, slotOf, freeSlot, checkCreate, checkOperate, checkNumber, checkSetValue, checkRemove, checkProcess}
+use Rattle.model.specs.Checks.{live, identifierOf, slotOf, freeSlot, checkCreate, checkOperate, checkNumber, checkSetValue, checkSet, checkProcess}
 use Rattle.model.specs.Counts.{forIncrease, forZero, countOf}
 
 pub data Event : Type 0 where
@@ -213,7 +213,7 @@ doSetValue wake s i n v =
 unfoldable pub doRemove : State → ℤ → Result
 doRemove s i =
     let slot = slotOf i in
-    checked (checkRemove s i) s
+    checked (checkSet s i) s
     (doneWith
     (record {
       sets = set (s .sets) slot (freeSet ((getD (s .sets) slot noSet .generation + 1) % 65536));

@@ -9,6 +9,7 @@ pub mod Waking
 pub mod Checks
 pub mod Counts
 pub mod Events
+pub mod WholeSet
 pub mod Runs
 pub mod Invariant
 pub mod Situations

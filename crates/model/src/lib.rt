@@ -148,6 +148,21 @@ pub struct Queried {
     pub looks: u32,
 }
 
+// What a whole set shows, by the number of a semaphore: of each its value, its last process, and who waits there, as a query
+// of it says; 0 from the set's count on. `judged` is the number of arrays that were judged for it.
+#[repr(C)]
+pub struct QueriedSet {
+    pub code: i32,
+    pub count: u8,
+    pub judged: usize,
+    pub values: [u16; SEMAPHORES],
+    pub lasts: [u8; SEMAPHORES],
+    pub increase: [u32; SEMAPHORES],
+    pub zero: [u32; SEMAPHORES],
+    pub increase_masks: [u8; SEMAPHORES],
+    pub zero_masks: [u8; SEMAPHORES],
+}
+
 // What any event answers.
 pub enum Reply {
     Told(Told),

@@ -10,9 +10,9 @@ use Rattle.model.specs.declared.Waking.{Waking}
 use Rattle.model.specs.Limits.{slots}
 use Rattle.model.specs.State.{Table, Sleeper, freeSet, noSet, cleared}
 use Rattle.model.specs.Marks.{mine}
-use Rattle.model.specs.Checks.{slotOf, freeSlot, identifierOf, checkCreate, checkRemove}
+use Rattle.model.specs.Checks.{slotOf, freeSlot, identifierOf, checkCreate, checkSet}
 use Rattle.model.specs.Events.{keep, endedWith, doCreate, doRemove, notMine}
-use Rattle.model.proofs.CheckLaws.{create-passes, remove-passes}
+use Rattle.model.proofs.CheckLaws.{create-passes, set-passes}
 use Rattle.host.specs.Parts.{Row}
 use Rattle.host.specs.Holding.{Host, withQueue, withTable, hostOf, setAt, withSet, setsIn, queueIn, tableIn, stateIn, Held, arrayIn}
 use Rattle.host.specs.Queue.{Queued, QueueHeld}
@@ -74,9 +74,9 @@ module _ (x : Host) (k : Held x) (count read alter : ℕ) (z : checkCreate (stat
 
 -- ---- remove
 
-module _ (x : Host) (k : Held x) (i : ℤ) (z : checkRemove (stateIn x) i ≡ 0) where
+module _ (x : Host) (k : Held x) (i : ℤ) (z : checkSet (stateIn x) i ≡ 0) where
   pub remove-slot : slotOf i < slots
-  remove-slot = remove-passes (stateIn x) i z .slot
+  remove-slot = set-passes (stateIn x) i z .slot
 
   module _ {slot g : ℕ} {r : Row} {y : Host} (es : slot ≡ slotOf i) (eg : g ≡ (setAt (x .row) slot .generation + 1) % 65536)
       (er : r ≡ withSet (x .row) slot (freeSet g))

@@ -6,6 +6,8 @@
 // event. Create, remove, signal and query wake nobody by a rule; operate, set value and exit go by the engine they are
 // handed. `run` does any of them.
 mod events;
+mod waiting;
+mod whole_set;
 
 ghost use mathlib.Core.Path.{_≡_};
 ghost use Rattle.model.specs.Waking.{waker};
@@ -19,6 +21,7 @@ pub use events::query::query;
 pub use events::remove::remove;
 pub use events::set_value::set_value;
 pub use events::signal::signal;
+pub use whole_set::query_set;
 use host::HOST_BYTES;
 use model::ALL_ADJUSTMENTS;
 use model::Engine;

@@ -9,7 +9,7 @@ ghost use Prim.Native.Nat.{_%_};
 ghost use lib.Dec.{eqb, ltb};
 ghost use lib.IntN.{ℤ};
 ghost use Rattle.model.specs.Limits.{operationBytes};
-ghost use Rattle.model.specs.Checks.{namesSet, freeSlot, checkCreate, checkOperate, checkNumber, checkSetValue, checkRemove, checkProcess};
+ghost use Rattle.model.specs.Checks.{namesSet, freeSlot, checkCreate, checkOperate, checkNumber, checkSetValue, checkSet, checkProcess};
 ghost use Rattle.host.specs.Parts.{rowIn};
 ghost use Rattle.host.specs.Holding.{setsIn, hostIn, stateIn};
 ghost use Rattle.service_queue.specs.Seated.{Seated};
@@ -127,9 +127,9 @@ pub fn check_set_value(host: &[u8; HOST_BYTES], identifier: i32, number: u16, va
     if in_range(value) { 0 } else { 34 }
 }
 
-// Remove.
-pub fn check_remove(host: &[u8; HOST_BYTES], identifier: i32) -> u8
-    ensures { λ r. ⌜ ((a : List ℤ) → r ≡ checkRemove (stateIn (hostIn (now (host .entry)) a)) identifier) ⌝ }
+// Remove, and a whole set.
+pub fn check_set(host: &[u8; HOST_BYTES], identifier: i32) -> u8
+    ensures { λ r. ⌜ ((a : List ℤ) → r ≡ checkSet (stateIn (hostIn (now (host .entry)) a)) identifier) ⌝ }
 {
     if names_set(host, identifier) { 0 } else { 22 }
 }

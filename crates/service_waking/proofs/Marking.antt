@@ -65,7 +65,7 @@ bit-if true false n h = omega arith
 bit-if false true n h = omega arith
 bit-if false false n h = omega arith
 
-next-or-not : (p n : ℕ) → p ≢ n + 1 → leb p (n + 1) ≡ leb p n
+pub next-or-not : (p n : ℕ) → p ≢ n + 1 → leb p (n + 1) ≡ leb p n
 next-or-not p n h = go (leb p n) refl
   where
     go : (b : Bool) → leb p n ≡ b → leb p (n + 1) ≡ b
@@ -86,13 +86,13 @@ module _ (test : Sleeper → Bool) where
       go false = refl
 
   -- nobody passes
-  mask-none : (m : ℕ) {q : List Sleeper} → All (λ (s : Sleeper). test s ≡ false) q → maskOf test m q ≡ m
+  pub mask-none : (m : ℕ) {q : List Sleeper} → All (λ (s : Sleeper). test s ≡ false) q → maskOf test m q ≡ m
   unfolding maskOf
   mask-none m none = refl
   mask-none m (also h t) = rw h (mask-none m t)
 
   -- another test that says the same of everybody
-  mask-same : (other : Sleeper → Bool) (m : ℕ) {q : List Sleeper} → All (λ (s : Sleeper). test s ≡ other s) q → maskOf test m q ≡ maskOf other m q
+  pub mask-same : (other : Sleeper → Bool) (m : ℕ) {q : List Sleeper} → All (λ (s : Sleeper). test s ≡ other s) q → maskOf test m q ≡ maskOf other m q
   unfolding maskOf
   mask-same other m none = refl
   mask-same other m (also {x = s} h t) = rw h (mask-same other (cond (other s) (bitOr m (bitOf (s .process))) m) t)
@@ -132,7 +132,7 @@ module _ (test : Sleeper → Bool) where
 -- ---- the processes to n alone
 
 module _ (test : Sleeper → Bool) where
-  abbrev upTo : ℕ → Sleeper → Bool
+  abbrev pub upTo : ℕ → Sleeper → Bool
   upTo n s = leb (s .process) n && test s
 
   -- the mask, and in it the sleeper if it passes
@@ -140,7 +140,7 @@ module _ (test : Sleeper → Bool) where
   with-next n m s = with-one (upTo n) m s
 
   -- one process more: the bit of the sleeper that is of it
-  mask-next : (n m : ℕ) (q : List Sleeper) → Distinct q → maskOf (upTo (n + 1)) m q ≡ bitOr (maskOf (upTo n) m q) (cond (ofProcess false test (n + 1) q) (2 ^ n) 0)
+  pub mask-next : (n m : ℕ) (q : List Sleeper) → Distinct q → maskOf (upTo (n + 1)) m q ≡ bitOr (maskOf (upTo n) m q) (cond (ofProcess false test (n + 1) q) (2 ^ n) 0)
   unfolding maskOf ofProcess
   mask-next n m [] d = sym (or-zero-r m)
   mask-next n m (s ∷ q) d = go (eqb (s .process) (n + 1)) refl (mask-next n (with-next n m s) q (distinct-rest d))
@@ -181,7 +181,7 @@ of-tests slot touched p (s ∷ q) = go (eqb (s .process) p) (of-tests slot touch
     go false ih = ih
 
 -- what stands at the next process in a part by process
-by-next : {r : Row} → QueueHeld r → (p : Part) (f : Sleeper → ℕ) (n : ℕ) → withQueue r (queueIn r) p ≡ byProcess f processes 1 (queueIn r) → n < processes
+pub by-next : {r : Row} → QueueHeld r → (p : Part) (f : Sleeper → ℕ) (n : ℕ) → withQueue r (queueIn r) p ≡ byProcess f processes 1 (queueIn r) → n < processes
     → getD (r p) (entry (n + 1)) 0 ≡ ofProcess 0 f (n + 1) (queueIn r)
 by-next {r} k p f n e l =
     rw (entry-is (n + 1) (omega arith))

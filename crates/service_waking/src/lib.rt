@@ -49,7 +49,7 @@ pub struct Tally {
 }
 
 // The bit of a process in a mask.
-pub fn bit_of(process: u8) -> u8
+fn bit_of(process: u8) -> u8
     requires { ⌜ IsProcess process ⌝ }
     ensures { λ r. ⌜ r ≡ bitOf process ⌝ }
 {
@@ -70,7 +70,7 @@ fn ending(outcome: Outcome) -> u8
 
 // What a look told: the outcome, the position of the operation that decided, and the copies of the values and of the
 // adjustments as the operations leave them.
-pub struct Looked {
+struct Looked {
     pub outcome: Outcome,
     pub position: usize,
     pub values: [u16; SEMAPHORES],
@@ -78,7 +78,7 @@ pub struct Looked {
 }
 
 // A look at the sleeper at a position: its array judged on the present state.
-pub fn look(host: &[u8; HOST_BYTES], adjustments: &[i16; ALL_ADJUSTMENTS], at: usize) -> Looked
+fn look(host: &[u8; HOST_BYTES], adjustments: &[i16; ALL_ADJUSTMENTS], at: usize) -> Looked
     requires { ⌜ Settleable (hostIn (now host) (now adjustments)) at ⌝ }
     ensures { λ r. ⌜ JudgedAs (tableIn (hostIn (now (host .entry)) (now (adjustments .entry)))) (getD (queueIn (rowIn (now (host .entry)))) at noSleeper) (r .outcome) (record { values = r .values; adjustments = r .undo }) ⌝ }
     ensures { λ r. ⌜ r .position ≡ lookAt (tableIn (hostIn (now (host .entry)) (now (adjustments .entry)))) (getD (queueIn (rowIn (now (host .entry)))) at noSleeper) .position ⌝ }
@@ -189,7 +189,7 @@ fn wake_plain(
 }
 
 // The marks, and those of the sleepers of a slot that name a touched semaphore.
-pub fn mark_touched(host: &[u8; HOST_BYTES], slot: usize, touched: u8, marks: u8) -> u8
+fn mark_touched(host: &[u8; HOST_BYTES], slot: usize, touched: u8, marks: u8) -> u8
     requires { ⌜ IsSlot slot ⌝ }
     requires { ⌜ QueueHeld (rowIn (now host)) ⌝ }
     ensures { λ r. ⌜ r ≡ markTouched slot touched marks (queueIn (rowIn (now (host .entry)))) ⌝ }

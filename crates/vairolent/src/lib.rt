@@ -8,6 +8,7 @@ ghost use mathlib.Core.List.{[]};
 ghost use Rattle.model.specs.State.{freshState};
 ghost use Rattle.model.specs.Waking.{waker};
 ghost use Rattle.model.specs.Events.{doCreate, doOperate, doSetValue, doRemove, doSignal, doExit, doQuery};
+ghost use Rattle.model.specs.WholeSet.{querySet};
 ghost use Rattle.model.specs.declared.Engine.the-variants.{Quick};
 ghost use Rattle.host.specs.Holding.{Held, hostIn, hostOf, stateIn};
 ghost use Rattle.wakings.specs.Wakings.{wakingsIn, listOf};
@@ -19,6 +20,7 @@ use model::Engine;
 use model::OPERATIONS;
 use model::PROCESSES;
 use model::Queried;
+use model::QueriedSet;
 use model::SEMAPHORES;
 use model::SETS;
 use model::Told;
@@ -183,4 +185,16 @@ pub extern "C" fn vairolent_query_in(
     ensures { λ r. ⌜ r ≡ queriedOf (doQuery (stateIn (hostIn (now (row .entry)) (now (adjustments .entry)))) identifier number) ⌝ }
 {
     service::query(row, adjustments, identifier, number)
+}
+
+#[no_mangle]
+pub extern "C" fn vairolent_query_set_in(
+    row: &[u8; HOST_BYTES],
+    adjustments: &[i16; ALL_ADJUSTMENTS],
+    identifier: i32,
+) -> QueriedSet
+    requires { ⌜ Held (hostIn (now row) (now adjustments)) ⌝ }
+    ensures { λ r. ⌜ r ≡ querySet (stateIn (hostIn (now (row .entry)) (now (adjustments .entry)))) identifier ⌝ }
+{
+    service::query_set(row, adjustments, identifier)
 }

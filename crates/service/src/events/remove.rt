@@ -13,7 +13,7 @@ use model::ALL_ADJUSTMENTS;
 use model::Set;
 use model::Told;
 use model::WAKING_BYTES;
-use service_checks::check_remove;
+use service_checks::check_set;
 use service_queue::remove_set;
 use service_table::clear_slot;
 use service_waking::Tally;
@@ -30,7 +30,7 @@ pub fn remove(
     ensures { λ r. ⌜ afterIn (now (host .exit)) (now (adjustments .exit)) (now (wakings .exit)) r ≡ afterOf (doRemove (stateIn (hostIn (now (host .entry)) (now (adjustments .entry)))) identifier) ⌝ }
 {
     clear(&mut *wakings);
-    let code = check_remove(&*host, identifier);
+    let code = check_set(&*host, identifier);
     if code != 0 {
         return quiet(code, 0);
     }

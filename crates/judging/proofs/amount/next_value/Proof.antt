@@ -8,8 +8,9 @@ use lib.Signed.{ltZ}
 use mir.Syntax.{w32}
 use mir.Facts.{toZ-ofZ}
 use mir.Val.{toZ, ofZ}
+use Rattle.judging.specs.Stop.{movedTo}
 use Rattle.judging.proofs.Signed.{clash, unsigned, at-most}
-use Rattle.judging.proofs.Values.{moved, next-is, lowered-fits}
+use Rattle.judging.proofs.Values.{next-is, lowered-fits}
 use Rattle.judging.proofs.amount.next_value.Statement.{statement}
 use Rattle.judging.proofs.amount.next_value.Tie as tie
 
@@ -18,7 +19,7 @@ moved-requires c κs = search needs
 
 -- where the amount leads
 abbrev new : tie.After-moved → ℤ
-new c = moved (c .before .args .value) (c .before .args .amount)
+new c = movedTo (c .before .args .value) (c .before .args .amount)
 
 -- .. as it stands in a local
 new-is : (c : tie.After-moved) → toZ w32 (ofZ w32 (c .moved .result)) ≡ new c

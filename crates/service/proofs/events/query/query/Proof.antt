@@ -1,7 +1,7 @@
 -- `service::events::query::query` meets its contract.
 use Prim.Native.Nat.{_<_}
 use native.Mathlib.Omega.{arith}
-use mathlib.Core.Path.{_≡_, sym, _∙_}
+use mathlib.Core.Path.{_≡_, refl, sym, _∙_}
 use mir.Facts.{toZ-ofZ}
 use borrow.Author.Needs.{needs}
 use Rattle.model.specs.Limits.{slots, semaphores}
@@ -51,8 +51,14 @@ mul-at c = omega (arith, small c .0)
 add-at : tie.Need-add-at
 add-at c = omega (arith, small c .0)
 
-all-waiters-requires : tie.Need-all-waiters-requires
-all-waiters-requires c κs = (of-slot c .pre, small c)
+waiting-requires : tie.Need-waiting-requires
+waiting-requires c κs = (of-slot c .pre, small c .0)
+
+element-copy-out-increase : tie.Need-element-copy-out-increase
+element-copy-out-increase c = small (c .before) .1
+
+element-copy-out-zero : tie.Need-element-copy-out-zero
+element-copy-out-zero c = small (c .before .before) .1
 
 value-at-requires : tie.Need-value-at-requires
 value-at-requires c κs = search needs
@@ -65,7 +71,7 @@ returns-2 c =
     let w = c .before .before .before .before in
     let o = w .before in
     let s = of-slot o in
-    queried (host s) (s .pre) (s .args .identifier) (s .args .number) (passes o) (slot-is o) (w .all-waiters .ensures) (c .before .before .before .value-at .ensures) (c .before .before .last-at .ensures)
+    queried (host s) (s .pre) (s .args .identifier) (s .args .number) (passes o) (slot-is o) (w .waiting .ensures) refl refl (c .before .value-at .ensures) (c .last-at .ensures)
 
 pub query-spec : {M : Type 1} → statement M
 query-spec =
@@ -77,7 +83,9 @@ query-spec =
     slot-of-requires
     mul-at
     add-at
-    all-waiters-requires
+    waiting-requires
+    element-copy-out-increase
+    element-copy-out-zero
     value-at-requires
     last-at-requires
     returns-2)

@@ -3,7 +3,7 @@ use Prim.Native.Nat.{_+_, _%_}
 use mathlib.Core.Path.{_≡_, sym, ap, _∙_}
 use mir.Facts.{toZ-ofZ}
 use Rattle.model.specs.declared.Set.{Set}
-use Rattle.model.specs.Checks.{slotOf, checkRemove}
+use Rattle.model.specs.Checks.{slotOf, checkSet}
 use Rattle.model.specs.Events.{doRemove}
 use Rattle.host.specs.Parts.{rowIn}
 use Rattle.host.specs.Holding.{Host, hostIn, stateIn, setAt}
@@ -19,10 +19,10 @@ abbrev x : tie.Start → Host
 x s = hostIn (s .args .host .now) (s .args .adjustments .now)
 
 -- the code of the checks, and what they leave
-code : (c : tie.After-check-remove) → let s = c .before .before .before .before in c .check-remove .result ≡ checkRemove (stateIn (x s)) (s .args .identifier)
-code c = let s = c .before .before .before .before in rw (toZ-ofZ (s .fits .identifier)) at (c .check-remove .ensures (s .args .adjustments .now))
+code : (c : tie.After-check-set) → let s = c .before .before .before .before in c .check-set .result ≡ checkSet (stateIn (x s)) (s .args .identifier)
+code c = let s = c .before .before .before .before in rw (toZ-ofZ (s .fits .identifier)) at (c .check-set .ensures (s .args .adjustments .now))
 
-none : (c : tie.Else1) → let s = c .before .before .before .before .before in checkRemove (stateIn (x s)) (s .args .identifier) ≡ 0
+none : (c : tie.Else1) → let s = c .before .before .before .before .before in checkSet (stateIn (x s)) (s .args .identifier) ≡ 0
 none c = sym (code (c .before)) ∙ c .if1 .left
 
 slot : (c : tie.After-slot-of) → c .slot-of .result ≡ slotOf (c .before .before .before .before .before .before .args .identifier)
@@ -34,8 +34,8 @@ generation c = c .wrapping-add-u16 .ensures ∙ ap (λ (u : Set). (u .generation
 clear-requires : tie.Need-clear-requires
 clear-requires c κs = search needs
 
-check-remove-requires : tie.Need-check-remove-requires
-check-remove-requires c κs = search needs
+check-set-requires : tie.Need-check-set-requires
+check-set-requires c κs = search needs
 
 quiet-requires : tie.Need-quiet-requires
 quiet-requires c κs = search needs
@@ -79,7 +79,7 @@ remove-spec =
     tie.close
     (tie.spec
     clear-requires
-    check-remove-requires
+    check-set-requires
     quiet-requires
     returns
     slot-of-requires

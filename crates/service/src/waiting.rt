@@ -1,0 +1,90 @@
+// Who waits at the semaphores of a set, found in one walk: a sleeper stops at one operation, so a walk tells it for all of them.
+ghost use mathlib.Core.Path.{_≡_};
+ghost use mathlib.Core.Bool.{not, _&&_};
+ghost use Prim.Native.Nat.{_%_};
+ghost use lib.Dec.{eqb};
+ghost use lib.ListN.{getD};
+ghost use Rattle.model.specs.Limits.{semaphores};
+ghost use Rattle.model.specs.Operation.{isNegative};
+ghost use Rattle.host.specs.Parts.{rowIn, sleepsAt, sizes};
+ghost use Rattle.host.specs.Holding.{Held, hostIn, tableIn, queueIn, entry};
+ghost use Rattle.service_table.specs.Numbered.{IsSlot};
+ghost use Rattle.service.specs.Waiting.{waitersOf, waitIf};
+use host::HOST_BYTES;
+use host::room_of;
+use host::size_at;
+use host::slot_byte;
+use host::values_of;
+use judging::is_negative;
+use judging::stop_of;
+use model::ALL_ADJUSTMENTS;
+use model::Operation;
+use model::PROCESSES;
+use model::SEMAPHORES;
+
+// At each semaphore of a set the processes that wait there, as masks: for an increase, and for zero; and how many arrays were
+// judged to find them.
+pub struct Waiters {
+    pub increase: [u8; SEMAPHORES],
+    pub zero: [u8; SEMAPHORES],
+    pub judged: usize,
+}
+
+// Does the process sleep at the slot?
+fn sleeps_at(host: &[u8; HOST_BYTES], process: u8, slot: u8) -> bool
+    ensures { λ r. ⌜ r ≡ (eqb (getD (rowIn (now (host .entry)) sleepsAt) (entry process) 0) slot && not (eqb (getD (rowIn (now (host .entry)) sizes) (entry process) 0) 0)) ⌝ }
+{
+    slot_byte(host, process) == slot && size_at(host, process) != 0
+}
+
+// A sleeper waits at the semaphore of the operation where it stops: for an increase if the amount is negative, else for zero.
+fn wait_at(
+    increase: &mut [u8; SEMAPHORES],
+    zero: &mut [u8; SEMAPHORES],
+    stop: Operation,
+    bit: u8,
+)
+    ensures { λ _. ⌜ now (increase .exit) ≡ waitIf (isNegative (stop .amount)) (now (increase .entry)) (stop .number % semaphores) bit ⌝ }
+    ensures { λ _. ⌜ now (zero .exit) ≡ waitIf (not (isNegative (stop .amount))) (now (zero .entry)) (stop .number % semaphores) bit ⌝ }
+{
+    let number = (stop.number as usize) % SEMAPHORES;
+    if is_negative(stop.amount) {
+        let mask = increase[number];
+        increase[number] = mask | bit;
+    } else {
+        let mask = zero[number];
+        zero[number] = mask | bit;
+    }
+}
+
+// The walk goes by process, since a process sleeps at most once and the masks are of processes. Each sleeper of the set is
+// judged once, on a copy of the set's values, to where it stops; none of another set is.
+pub fn waiting(
+    host: &[u8; HOST_BYTES],
+    adjustments: &[i16; ALL_ADJUSTMENTS],
+    slot: usize,
+) -> Waiters
+    requires { ⌜ Held (hostIn (now host) (now adjustments)) ⌝ }
+    requires { ⌜ IsSlot slot ⌝ }
+    ensures { λ r. ⌜ r ≡ waitersOf (tableIn (hostIn (now (host .entry)) (now (adjustments .entry)))) slot (queueIn (hostIn (now (host .entry)) (now (adjustments .entry)) .row)) ⌝ }
+{
+    let values = values_of(host, slot);
+    let wanted = (slot % 256) as u8;
+    let mut increase = [0u8; SEMAPHORES];
+    let mut zero = [0u8; SEMAPHORES];
+    let mut judged: usize = 0;
+    for n in 0..PROCESSES {
+        let process = (n as u8) + 1;
+        if sleeps_at(host, process, wanted) {
+            let mut copy = values;
+            let stop = stop_of(&mut copy, room_of(host, process));
+            judged += 1;
+            wait_at(&mut increase, &mut zero, stop, 1u8 << n);
+        }
+    }
+    Waiters {
+        increase: increase,
+        zero: zero,
+        judged: judged,
+    }
+}
