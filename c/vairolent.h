@@ -73,6 +73,20 @@ struct vairolent_queried {
     uint32_t looks;        /* 0: a query judges nobody again */
 };
 
+/* What a whole set tells: at each number what a query of that semaphore tells; 0 from the set's count on. A sleeper
+ * waits at one semaphore alone, so the wait counts of a set add up to the arrays that were judged. */
+struct vairolent_queried_set {
+    int32_t code;                                 /* 0, or why it is refused; then all else is 0 */
+    uint8_t count;                                /* how many semaphores the set has */
+    size_t judged;                                /* how many arrays were judged: each sleeper's of the set, once */
+    uint16_t values[VAIROLENT_SEMAPHORES];        /* 0 to 32,767 */
+    uint8_t lasts[VAIROLENT_SEMAPHORES];          /* the last process whose done array names it, 0 if none */
+    uint32_t increase[VAIROLENT_SEMAPHORES];      /* how many sleepers wait there for an increase */
+    uint32_t zero[VAIROLENT_SEMAPHORES];          /* how many wait there for zero */
+    uint8_t increase_masks[VAIROLENT_SEMAPHORES]; /* which processes wait there for an increase */
+    uint8_t zero_masks[VAIROLENT_SEMAPHORES];     /* which wait there for zero */
+};
+
 /* What the archive was built for, by the names of the constants above. */
 struct vairolent_limits {
     size_t sets;
@@ -187,6 +201,16 @@ static inline struct vairolent_queried vairolent_query(const struct vairolent_ho
                                                        uint16_t number)
 {
     return vairolent_query_in(host->row, host->adjustments, identifier, number);
+}
+
+/* Shows a whole set: all its semaphores, by judging each of its sleepers once, where a query of each would judge them
+ * again and again. It is no event: the host stays as it is, and nobody is looked at.
+ * Refused: EINVAL no such set. */
+struct vairolent_queried_set vairolent_query_set_in(const uint8_t *row, const int16_t *adjustments,
+                                                    int32_t identifier);
+static inline struct vairolent_queried_set vairolent_query_set(const struct vairolent_host *host, int32_t identifier)
+{
+    return vairolent_query_set_in(host->row, host->adjustments, identifier);
 }
 
 #ifdef __cplusplus

@@ -29,6 +29,7 @@ extern void *raw_signal(void *result, uint8_t *, int16_t *, struct vairolent_wak
     __asm__("vairolent_signal_in");
 extern void *raw_query(void *result, const uint8_t *, const int16_t *, int32_t, uint16_t)
     __asm__("vairolent_query_in");
+extern void *raw_query_set(void *result, const uint8_t *, const int16_t *, int32_t) __asm__("vairolent_query_set_in");
 
 static struct vairolent_host host;
 
@@ -36,6 +37,7 @@ static void limits_into(void *result) { raw_limits(result); }
 static void fresh_into(void *result) { raw_fresh(result); }
 static void told_into(void *result) { raw_signal(result, host.row, host.adjustments, host.wakings, 1); }
 static void queried_into(void *result) { raw_query(result, host.row, host.adjustments, 0, 0); }
+static void queried_set_into(void *result) { raw_query_set(result, host.row, host.adjustments, 0); }
 
 /* A field of a struct: its first byte, and how many it has. */
 struct field {
@@ -81,11 +83,18 @@ static void sizes(void)
                                            FIELD(queried, increase), FIELD(queried, zero),
                                            FIELD(queried, increase_mask), FIELD(queried, zero_mask),
                                            FIELD(queried, looks)};
+    static const struct field queried_set[] = {FIELD(queried_set, code), FIELD(queried_set, count),
+                                               FIELD(queried_set, judged), FIELD(queried_set, values),
+                                               FIELD(queried_set, lasts), FIELD(queried_set, increase),
+                                               FIELD(queried_set, zero), FIELD(queried_set, increase_masks),
+                                               FIELD(queried_set, zero_masks)};
     host = vairolent_fresh();
     struct_is("struct vairolent_limits", sizeof(struct vairolent_limits), limits_into, 0, FIELDS(limits));
     struct_is("struct vairolent_host", sizeof(struct vairolent_host), fresh_into, 1, FIELDS(hosts));
     struct_is("struct vairolent_told", sizeof(struct vairolent_told), told_into, 0, FIELDS(told));
     struct_is("struct vairolent_queried", sizeof(struct vairolent_queried), queried_into, 3, FIELDS(queried));
+    struct_is("struct vairolent_queried_set", sizeof(struct vairolent_queried_set), queried_set_into, 3,
+              FIELDS(queried_set));
     want("the bytes of a struct sembuf", sizeof(struct sembuf), VAIROLENT_OPERATION_BYTES);
     want("the bytes of a waking", sizeof(struct vairolent_waking), 2);
 }
@@ -162,6 +171,37 @@ static void offsets_queried(void)
     want("the code of a refused query", vairolent_query(&host, 4, 2).code, EINVAL);
 }
 
+/* A set of three beside another one: each number is told at its place, and a sleeper of the other set not at all. */
+static void offsets_queried_set(void)
+{
+    again(3);
+    vairolent_create(&host, 1, VAIROLENT_ALL, VAIROLENT_ALL);
+    operate(8, 4, 2, 300, 0);
+    operate(6, 4, 0, 1, 0);
+    operate(3, 4, 2, -301, 0);
+    operate(4, 4, 2, -302, 0);
+    operate(7, 4, 0, 0, 0);
+    operate(1, 1, 0, -1, 0);
+    struct vairolent_queried_set seen = vairolent_query_set(&host, 4);
+    want("code", seen.code, 0);
+    want("count", seen.count, 3);
+    want("judged", (long long)seen.judged, 3);
+    want("the first value", seen.values[0], 1);
+    want("the last value", seen.values[2], 300);
+    want("the first last process", seen.lasts[0], 6);
+    want("the last process of the last", seen.lasts[2], 8);
+    want("increase", seen.increase[2], 2);
+    want("no increase at the first", seen.increase[0], 0);
+    want("zero", seen.zero[0], 1);
+    want("no zero at the last", seen.zero[2], 0);
+    want("increase_masks", seen.increase_masks[2], 12);
+    want("zero_masks", seen.zero_masks[0], 64);
+    want("beyond the count", seen.values[3] + seen.lasts[3] + seen.increase_masks[7] + seen.zero_masks[7], 0);
+    want("the arrays judged of the other set", (long long)vairolent_query_set(&host, 1).judged, 1);
+    want("the code of no set", vairolent_query_set(&host, 0).code, EINVAL);
+    want("the arrays judged of no set", (long long)vairolent_query_set(&host, 0).judged, 0);
+}
+
 /* What the limits mean, at their edges. */
 static void edges(void)
 {
@@ -214,6 +254,8 @@ static void widths(void)
     int32_t set = 4 * GENERATIONS;
     want("a large identifier", vairolent_create(&host, 1, VAIROLENT_ALL, VAIROLENT_ALL).value, set);
     want("no set 0", vairolent_query(&host, 0, 0).code, EINVAL);
+    want("no set 0 as a whole", vairolent_query_set(&host, 0).code, EINVAL);
+    want("the whole set, by it", vairolent_query_set(&host, set).count, 1);
     want("an operate by it", operate(1, set, 0, 300, 0).code, 0);
     want("the value, by it", vairolent_query(&host, set, 0).value, 300);
     want("no semaphore 256", vairolent_query(&host, set, 256).code, EINVAL);
@@ -245,6 +287,7 @@ int main(void)
     limits();
     offsets_told();
     offsets_queried();
+    offsets_queried_set();
     edges();
     arguments();
     widths();

@@ -115,13 +115,48 @@ static void write_told(struct vairolent_told told)
     putchar('\n');
 }
 
-/* .. of a query's. A wait count is the number of ones in its mask. */
+/* Notes what does not hold. */
+static int faults;
+
+static void want(const char *what, int holds)
+{
+    if (holds)
+        return;
+    faults++;
+    fprintf(stderr, "replay: it does not hold that %s\n", what);
+}
+
+/* Does the whole set show the same at this number, and do its counts add up? */
+static void check_set(struct vairolent_queried_set set, uint16_t number, struct vairolent_queried seen)
+{
+    size_t waiting = 0;
+    for (size_t i = 0; i < VAIROLENT_SEMAPHORES; i++)
+        waiting += set.increase[i] + set.zero[i];
+    want("the wait counts of a set are the arrays that were judged", waiting == set.judged);
+    want("a query is refused where the whole set is, or has no such number",
+         (seen.code != 0) == (set.code != 0 || number >= set.count));
+    if (seen.code != 0)
+        return;
+    want("the whole set shows what a query shows",
+         set.values[number] == seen.value && set.lasts[number] == seen.last && set.increase[number] == seen.increase &&
+             set.zero[number] == seen.zero && set.increase_masks[number] == seen.increase_mask &&
+             set.zero_masks[number] == seen.zero_mask);
+}
+
+/* .. of a query's. */
 static void write_queried(struct vairolent_queried seen)
 {
     printf(" %" PRId32 " %d %d %" PRIu32 " %" PRIu32 "\n", seen.code, seen.value, seen.last, seen.increase, seen.zero);
-    if (__builtin_popcount(seen.increase_mask) != (int)seen.increase ||
-        __builtin_popcount(seen.zero_mask) != (int)seen.zero)
-        fprintf(stderr, "replay: a wait count is not the number of ones in its mask\n");
+    want("a wait count is the number of ones in its mask",
+         __builtin_popcount(seen.increase_mask) == (int)seen.increase &&
+             __builtin_popcount(seen.zero_mask) == (int)seen.zero);
+}
+
+static void query(int32_t identifier, uint16_t number)
+{
+    struct vairolent_queried seen = vairolent_query(&host, identifier, number);
+    write_queried(seen);
+    check_set(vairolent_query_set(&host, identifier), number, seen);
 }
 
 int main(void)
@@ -138,10 +173,10 @@ int main(void)
     for (size_t i = 0; i < events(); i++) {
         printf("%zu", i);
         if (body[0] == QUERY)
-            write_queried(vairolent_query(&host, signed_at(body + 1), (uint16_t)number_at(body + 5, 2)));
+            query(signed_at(body + 1), (uint16_t)number_at(body + 5, 2));
         else
             write_told(tell(body));
         body += length_of(i);
     }
-    return 0;
+    return faults != 0;
 }

@@ -35,7 +35,7 @@ use Rattle.host.specs.Queue.{Room}
 use Rattle.host.proofs.ProcessLaws.{of-own}
 use Rattle.host.proofs.SleeperLaws.{zeros-at}
 use Rattle.host.proofs.QueueRows.{array-read-back}
-use Rattle.judging.specs.Stop.{Stopped, stoppedAt, stopFrom}
+use Rattle.judging.specs.Stop.{stopFrom}
 use Rattle.judging.proofs.StopLaws.{stop-in-room}
 use Rattle.service_waking.proofs.LookLaws.{values-read}
 use Rattle.service_waking.proofs.Marking.{shifted, upTo, next-or-not, mask-none, mask-same, mask-next, by-next}
@@ -148,7 +148,7 @@ module _ (x : Host) (k : Held x) (slot : ℕ) (small : slot < slots) {p : ℕ} (
   stuck = all-at (queueIn (x .row)) (seat .at) noSleeper (held-invariant x k .stuck) (seat .there)
 
   -- by the values, and in its room, it stops where judging stops
-  module _ {o : Operation} {bytes vs left : List ℕ} (eb : bytes ≡ roomIn (x .row) p) (ev : vs ≡ from 0 semaphores (row slot) (x .row values)) (e : stoppedAt o left ≡ stopFrom (operationsOf bytes) vs) where
+  module _ {o : Operation} {vs : List ℕ} (ev : vs ≡ from 0 semaphores (row slot) (x .row values)) (eo : o ≡ stopFrom (operationsOf (roomIn (x .row) p)) vs .operation) where
     stop-is : o ≡ stop (tableIn x) (getD (queueIn (x .row)) (seat .at) noSleeper)
     unfolding stop look mine arrayIn
     stop-is =
@@ -160,7 +160,7 @@ module _ (x : Host) (k : Held x) (slot : ℕ) (small : slot < slots) {p : ℕ} (
         let found = stop-in-room (roomIn (x .row) p) n (copiesOf t sleeper) (copies-fine t sleeper (v .good) f)
         (subst (λ (a : List ℕ). All (λ (o : Operation). o .number < semaphores) (operationsOf a)) (sym array-own) (numbers-fit (v .counts) sleeper f))
         (subst (λ (a : List ℕ). judge (copiesOf t sleeper) (operationsOf a) .outcome ≡ Sleep) (sym array-own) (sleeps _ stuck)) in
-        ap (λ (y : Stopped). y .operation) (e ∙ ap₂ (λ (b w : List ℕ). stopFrom (operationsOf b) w) eb read)
+        eo ∙ ap (λ (w : List ℕ). stopFrom (operationsOf (roomIn (x .row) p)) w .operation) read
         ∙ found
         ∙ ap (λ (a : List ℕ). getD (operationsOf a) (judge (copiesOf t sleeper) (operationsOf a) .position) noOperation) array-own
 
@@ -294,10 +294,9 @@ module _ (x : Host) (k : Held x) (slot : ℕ) where
         unmoved m h = sym (rw h (or-zero-r m))
 
     -- it does, and is judged
-    module _ (z : b ≡ true) {o : Operation} {bytes vs left increase′ zero′ : List ℕ}
-        (eb : bytes ≡ roomIn (x .row) (n + 1))
+    module _ (z : b ≡ true) {o : Operation} {vs increase′ zero′ : List ℕ}
         (ev : vs ≡ from 0 semaphores (row slot) (x .row values))
-        (eo : stoppedAt o left ≡ stopFrom (operationsOf bytes) vs)
+        (eo : o ≡ stopFrom (operationsOf (roomIn (x .row) (n + 1))) vs .operation)
         (ei : increase′ ≡ waitIf (isNegative (o .amount)) increase (o .number % semaphores) (1 * 2 ^ n % 256))
         (ez : zero′ ≡ waitIf (not (isNegative (o .amount))) zero (o .number % semaphores) (1 * 2 ^ n % 256)) where
       seat : Seat (n + 1) (queueIn (x .row))
@@ -314,7 +313,7 @@ module _ (x : Host) (k : Held x) (slot : ℕ) where
           → ((j : ℕ) → tests j (getD (queueIn (x .row)) (seat .at) noSleeper) ≡ eqb (o .number) j && c) → Gathered tests (queueIn (x .row)) masks′ (n + 1)
       waited tests {masks} {masks′} c g e h =
           gathered-next tests q distinct g (ap length e ∙ wait-long masks (o .number % semaphores) (1 * 2 ^ n % 256) c)
-          (λ j. ap (λ (m : List ℕ). getD m j 0) e ∙ wait-if masks (o .number) j (1 * 2 ^ n % 256) c (number-small x k slot small seat here eb ev eo) (g .long)
+          (λ j. ap (λ (m : List ℕ). getD m j 0) e ∙ wait-if masks (o .number) j (1 * 2 ^ n % 256) c (number-small x k slot small seat here ev eo) (g .long)
           ∙ ap₂ (λ (t : Bool) (bit : ℕ). bitOr (getD masks j 0) (cond t bit 0)) (sym (of-seat (tests j) ∙ h j)) (shifted n l))
 
       pub walked-more : Walked x slot increase′ zero′ (judged + 1) (n + 1)
@@ -322,7 +321,7 @@ module _ (x : Host) (k : Held x) (slot : ℕ) where
           record {
             within = omega arith;
             few = omega (arith, w .few);
-            increases = waited (forIncrease (tableIn x) slot) (isNegative (o .amount)) (w .increases) ei (for-increase x k slot small seat here eb ev eo);
-            zeros = waited (forZero (tableIn x) slot) (not (isNegative (o .amount))) (w .zeros) ez (for-zero x k slot small seat here eb ev eo);
+            increases = waited (forIncrease (tableIn x) slot) (isNegative (o .amount)) (w .increases) ei (for-increase x k slot small seat here ev eo);
+            zeros = waited (forZero (tableIn x) slot) (not (isNegative (o .amount))) (w .zeros) ez (for-zero x k slot small seat here ev eo);
             counted = ap (λ (c : Bool). judged + cond c 1 0) (sym z) ∙ counted-next;
           }

@@ -1,13 +1,14 @@
 // Who waits at the semaphores of a set, found in one walk: a sleeper stops at one operation, so a walk tells it for all of them.
 ghost use mathlib.Core.Path.{_≡_};
 ghost use mathlib.Core.Bool.{not, _&&_};
-ghost use Prim.Native.Nat.{_%_};
+ghost use Prim.Native.Nat.{_+_, _%_, _<_};
 ghost use lib.Dec.{eqb};
 ghost use lib.ListN.{getD};
-ghost use Rattle.model.specs.Limits.{semaphores};
-ghost use Rattle.model.specs.Operation.{isNegative};
+ghost use Rattle.model.specs.Limits.{semaphores, processes};
+ghost use Rattle.model.specs.Operation.{operationsOf, isNegative};
 ghost use Rattle.host.specs.Parts.{rowIn, sleepsAt, sizes};
-ghost use Rattle.host.specs.Holding.{Held, hostIn, tableIn, queueIn, entry};
+ghost use Rattle.host.specs.Holding.{Held, hostIn, tableIn, queueIn, entry, roomIn};
+ghost use Rattle.judging.specs.Stop.{stopFrom};
 ghost use Rattle.service_table.specs.Numbered.{IsSlot};
 ghost use Rattle.service.specs.Waiting.{waitersOf, waitIf};
 use host::HOST_BYTES;
@@ -57,8 +58,25 @@ fn wait_at(
     }
 }
 
-// The walk goes by process, since a process sleeps at most once and the masks are of processes. Each sleeper of the set is
-// judged once, on a copy of the set's values, to where it stops; none of another set is.
+// A sleeping process's array is judged on a copy of its set's values, to the operation where it stops. It is counted here, so
+// that none is judged uncounted.
+fn judge_one(
+    host: &[u8; HOST_BYTES],
+    process: u8,
+    values: [u16; SEMAPHORES],
+    judged: &mut usize,
+) -> Operation
+    requires { ⌜ now judged < processes ⌝ }
+    ensures { λ r. ⌜ r ≡ stopFrom (operationsOf (roomIn (rowIn (now (host .entry))) process)) values .operation ⌝ }
+    ensures { λ _. ⌜ now (judged .exit) ≡ now (judged .entry) + 1 ⌝ }
+{
+    let mut copy = values;
+    *judged = *judged + 1;
+    stop_of(&mut copy, room_of(host, process))
+}
+
+// The walk goes by process: a process sleeps at most once, and the masks are of processes. Each sleeper of the set is judged
+// once, and none of another set.
 pub fn waiting(
     host: &[u8; HOST_BYTES],
     adjustments: &[i16; ALL_ADJUSTMENTS],
@@ -76,9 +94,7 @@ pub fn waiting(
     for n in 0..PROCESSES {
         let process = (n as u8) + 1;
         if sleeps_at(host, process, wanted) {
-            let mut copy = values;
-            let stop = stop_of(&mut copy, room_of(host, process));
-            judged += 1;
+            let stop = judge_one(host, process, values, &mut judged);
             wait_at(&mut increase, &mut zero, stop, 1u8 << n);
         }
     }

@@ -23,13 +23,21 @@ pub struct Report {
 }
 
 /// The answer to a query; the two wait counts are the numbers of ones in their masks.
-#[derive(Clone, Copy, Debug, Default)]
+#[derive(Clone, Copy, Debug, Default, PartialEq, Eq)]
 pub struct State {
     pub code: i32,
     pub value: i32,
     pub last: u8,
     pub for_increase: u8,
     pub for_zero: u8,
+}
+
+/// What a whole set shows: each of its semaphores as a query would, and how many arrays were judged
+/// for that.
+#[derive(Clone, Debug)]
+pub struct SetState {
+    pub states: Vec<State>,
+    pub judged: usize,
 }
 
 /// A sleeper that an event finished: its process number and the code it ended with.

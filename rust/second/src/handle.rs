@@ -1,6 +1,6 @@
-//! The seven events of a host.
+//! The seven events of a host, and a whole set shown.
 
-use crate::answer::{Answer, Report, State, ASLEEP};
+use crate::answer::{Answer, Report, SetState, State, ASLEEP};
 use crate::errno::Errno;
 use crate::event::Event;
 use crate::host::{identifier, Host, SLOTS};
@@ -130,5 +130,30 @@ impl Host {
             }
         }
         Ok(state)
+    }
+
+    /// The whole set at once: each of its sleepers is judged, and waits at the semaphore where it
+    /// stops.
+    pub fn query_set(&self, identifier: i32) -> Result<SetState, Errno> {
+        let slot = self.find(identifier)?;
+        let set = &self.sets[slot];
+        let shown = set.values.iter().zip(&set.last).take(usize::from(set.count));
+        let state = |(&value, &last): (&i32, &u8)| State { value, last, ..State::default() };
+        let mut states: Vec<State> = shown.map(state).collect();
+        let mut judged = 0;
+        for (process, sleeper) in self.queue.of_set(slot) {
+            judged += 1;
+            if let Outcome::Sleep(stop) = set.outcome(process, &sleeper.array) {
+                let operation = sleeper.array.operations()[stop];
+                let state = &mut states[usize::from(operation.number)];
+                let waiters = if operation.amount < 0 {
+                    &mut state.for_increase
+                } else {
+                    &mut state.for_zero
+                };
+                *waiters |= process.bit();
+            }
+        }
+        Ok(SetState { states, judged })
     }
 }

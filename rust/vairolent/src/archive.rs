@@ -47,6 +47,20 @@ pub struct Queried {
     _looks: u32,
 }
 
+/// What a whole set shows, by the number of a semaphore.
+#[repr(C)]
+pub struct QueriedSet {
+    pub code: i32,
+    pub count: u8,
+    pub judged: usize,
+    pub values: [u16; SEMAPHORES],
+    pub lasts: [u8; SEMAPHORES],
+    pub increase: [u32; SEMAPHORES],
+    pub zero: [u32; SEMAPHORES],
+    pub increase_masks: [u8; SEMAPHORES],
+    pub zero_masks: [u8; SEMAPHORES],
+}
+
 /// What the archive was built for.
 #[repr(C)]
 #[derive(Debug, PartialEq, Eq)]
@@ -132,6 +146,12 @@ extern "C" {
         identifier: i32,
         number: u16,
     ) -> Queried;
+
+    pub fn vairolent_query_set_in(
+        row: &Row,
+        adjustments: &Adjustments,
+        identifier: i32,
+    ) -> QueriedSet;
 }
 
 #[cfg(test)]

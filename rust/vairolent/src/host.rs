@@ -1,4 +1,4 @@
-//! The host, and the seven events on it.
+//! The host, the seven events on it, and a whole set shown.
 
 use std::fmt;
 use std::mem::size_of_val;
@@ -9,6 +9,7 @@ use crate::codes;
 use crate::error::Error;
 use crate::limits::PROCESSES;
 use crate::operation::Operation;
+use crate::set::Set;
 use crate::wakings::Wakings;
 
 /// All that the service knows: the sets, the undo adjustments and the sleepers. It is some thousand
@@ -311,6 +312,36 @@ impl Host {
             increase_mask: seen.increase_mask,
             zero_mask: seen.zero_mask,
         })
+    }
+
+    /// Shows a whole set: each of its semaphores as [`Host::query`] does.
+    ///
+    /// Each sleeper of the set is judged once for all of them, where a query of each semaphore would
+    /// judge it again and again. It is no event, and nobody is looked at.
+    ///
+    /// # Errors
+    ///
+    /// - [`Error::Invalid`]: the identifier names no live set.
+    ///
+    /// ```
+    /// use vairolent::{Answer, Host, Operation, ALL};
+    ///
+    /// let mut host = Host::new();
+    /// let set = host.create(3, ALL, ALL)?;
+    /// assert_eq!(host.operate(3, set, &[Operation::new(0, -1)])?, Answer::Asleep);
+    /// assert_eq!(host.operate(5, set, &[Operation::new(2, -1)])?, Answer::Asleep);
+    /// let seen = host.query_set(set)?;
+    /// let waiting: Vec<u32> = seen.semaphores().iter().map(|each| each.increase).collect();
+    /// assert_eq!(waiting, [1, 0, 1]);
+    /// assert_eq!(seen.judged(), 2);
+    /// # Ok::<(), vairolent::Error>(())
+    /// ```
+    pub fn query_set(&self, identifier: i32) -> Result<Set, Error> {
+        let Host { row, adjustments } = self;
+        // SAFETY: The host is fresh or as the last event left it, since its parts are private.
+        let seen = unsafe { archive::vairolent_query_set_in(row, adjustments, identifier) };
+        Error::check(seen.code)?;
+        Ok(Set::new(&seen))
     }
 }
 

@@ -34,7 +34,8 @@
 //!
 //! This package is ordinary Rust, and not proved. It keeps a host's bytes private, so that they are
 //! always as the last event left them, lends them to the archive by the C convention, and turns
-//! codes and bytes into [`Error`], [`Answer`], [`Wakings`] and [`Semaphore`]. All of that is tested.
+//! codes and bytes into [`Error`], [`Answer`], [`Wakings`], [`Semaphore`] and [`Set`]. All of that is
+//! tested.
 
 #![deny(missing_docs)]
 
@@ -48,6 +49,7 @@ mod error;
 mod host;
 mod limits;
 mod operation;
+mod set;
 mod wakings;
 
 pub use answers::{Answer, Semaphore};
@@ -55,4 +57,5 @@ pub use error::Error;
 pub use host::Host;
 pub use limits::{ALL, OPERATIONS, PROCESSES, SEMAPHORES, SETS, VALUE_MAX};
 pub use operation::Operation;
+pub use set::Set;
 pub use wakings::{Ending, Waking, Wakings};

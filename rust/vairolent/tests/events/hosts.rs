@@ -63,6 +63,29 @@ fn every_number_of_a_query() {
 }
 
 #[test]
+fn every_number_of_a_whole_set() {
+    let (mut host, set) = with_set(3);
+    let other = host.create(8, ALL, ALL).expect("a slot is free");
+    assert!(matches!(host.operate(8, set, &[Operation::new(2, 300)]), Ok(Answer::Done(_))));
+    assert!(matches!(host.operate(7, set, &[Operation::new(0, 5)]), Ok(Answer::Done(_))));
+    sleep(&mut host, set, &[1, 4], &[Operation::new(0, -5), Operation::new(2, -301)]);
+    sleep(&mut host, set, &[2], &[Operation::new(1, 1), Operation::new(0, 0)]);
+    sleep(&mut host, other, &[3], &[Operation::new(7, -1)]);
+    let seen = host.query_set(set).expect("a live set");
+    let none =
+        Semaphore { value: 0, last: 0, increase: 0, zero: 0, increase_mask: 0, zero_mask: 0 };
+    let first = Semaphore { value: 5, last: 7, zero: 1, zero_mask: 0b0000_0010, ..none };
+    let third = Semaphore { value: 300, last: 8, increase: 2, increase_mask: 0b0000_1001, ..none };
+    assert_eq!(seen.semaphores(), [first, none, third]);
+    // The sleeper of the other set is not judged.
+    assert_eq!(seen.judged(), 3);
+    let seen = host.query_set(other).expect("a live set");
+    let last = Semaphore { increase: 1, increase_mask: 0b0000_0100, ..none };
+    assert_eq!(seen.semaphores(), [none, none, none, none, none, none, none, last]);
+    assert_eq!(seen.judged(), 1);
+}
+
+#[test]
 fn flags_other_than_the_two_are_ignored() {
     let (mut host, set) = with_set(1);
     let others = !(Operation::NOWAIT | Operation::UNDO);

@@ -104,11 +104,12 @@ fn set_value() {
 }
 
 #[test]
-fn remove_and_query() {
+fn remove_query_and_a_whole_set() {
     let (mut host, set) = with_set(2);
     for none in NO_SETS {
         refused(&mut host, Error::Invalid, |host| host.remove(none));
         refused(&mut host, Error::Invalid, |host| host.query(none, 0));
+        refused(&mut host, Error::Invalid, |host| host.query_set(none));
     }
     for number in [2, 8, u16::MAX] {
         refused(&mut host, Error::Invalid, |host| host.query(set, number));

@@ -72,6 +72,20 @@ fn one_look_and_a_query() {
 }
 
 #[test]
+fn a_whole_set() {
+    let (mut host, set) = with_set(2);
+    sleep(&mut host, set, &[5], &[Operation::new(1, -2)]);
+    let seen = host.query_set(set).expect("seen");
+    let wanted = "0: value 0, last process 0, waiting 0 for increase, 0 for zero\n\
+                  1: value 0, last process 0, waiting 1 for increase, 0 for zero\n";
+    assert_eq!(seen.to_string(), wanted);
+    let wanted = "Set { semaphores: [Semaphore { value: 0, last: 0, increase: 0, zero: 0, \
+                  increase_mask: 0, zero_mask: 0 }, Semaphore { value: 0, last: 0, increase: 1, \
+                  zero: 0, increase_mask: 16, zero_mask: 0 }], judged: 1 }";
+    assert_eq!(format!("{seen:?}"), wanted);
+}
+
+#[test]
 fn a_host_in_short() {
     assert_eq!(format!("{:?}", Host::new()), "Host { .. }");
 }

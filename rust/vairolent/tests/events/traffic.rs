@@ -148,6 +148,10 @@ impl Traffic {
         let semaphore = self.host.query(identifier, number)?;
         assert_eq!(semaphore.increase, semaphore.increase_mask.count_ones());
         assert_eq!(semaphore.zero, semaphore.zero_mask.count_ones());
+        let set = self.host.query_set(identifier)?;
+        assert_eq!(set.semaphores()[usize::from(number)], semaphore);
+        let waiting = set.semaphores().iter().map(|each| each.increase + each.zero);
+        assert_eq!(waiting.sum::<u32>() as usize, set.judged());
         Ok(())
     }
 

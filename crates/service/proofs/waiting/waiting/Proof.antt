@@ -37,14 +37,8 @@ add-process c = search needs
 sleeps-at-requires : tie.Need-sleeps-at-requires Inv-loop μ-loop
 sleeps-at-requires c κs = search needs
 
-room-of-requires : tie.Need-room-of-requires Inv-loop μ-loop
-room-of-requires c κs = search needs
-
-stop-of-requires : tie.Need-stop-of-requires Inv-loop μ-loop
-stop-of-requires c κs = search needs
-
-add-judged : tie.Need-add-judged Inv-loop μ-loop
-add-judged c = let w = c .before .before .before .before .before .before .loop .inv in record { fits = omega (arith, w .few, w .within) }
+judge-one-requires : tie.Need-judge-one-requires Inv-loop μ-loop
+judge-one-requires c κs = let t = c .before .before .before in omega (arith, t .before .loop .inv .few, t .loop-test .taken)
 
 cast-wait-at : tie.Need-cast-wait-at Inv-loop μ-loop
 cast-wait-at c = search needs
@@ -68,7 +62,7 @@ loop-again c =
     let l = c .before .before .loop-test .taken in
     let e = c .before .sleeps-at .ensures in
     ⊎-elim
-    (λ v. rw (v .7, v .8, v .9) (walked-more (host s) (s .pre .0) (s .args .slot) (s .pre .1) (t .loop .inv) l e (v .0 .taken) (v .2 .ensures) (t .before .values-of .ensures) (v .3 .ensures) (v .6 .ensures .0) (v .6 .ensures .1)))
+    (λ v. rw (v .6, v .7, v .8, v .2 .ensures .1) (walked-more (host s) (s .pre .0) (s .args .slot) (s .pre .1) (t .loop .inv) l e (v .0 .taken) (t .before .values-of .ensures) (v .2 .ensures .0) (v .5 .ensures .0) (v .5 .ensures .1)))
     (λ v. rw (v .1, v .2, v .3) (walked-by (host s) (s .pre .0) (s .args .slot) (s .pre .1) (t .loop .inv) l e (v .0 .left)))
     (c .if1 .came)
 
@@ -87,9 +81,7 @@ waiting-spec =
     cast-process
     add-process
     sleeps-at-requires
-    room-of-requires
-    stop-of-requires
-    add-judged
+    judge-one-requires
     cast-wait-at
     shl-wait-at
     wait-at-requires

@@ -1,0 +1,50 @@
+/* The reviewer's screen: every semaphore of a set at once, with who waits there. */
+#include <stdio.h>
+#include <stdlib.h>
+#include <sys/sem.h>
+
+#include "vairolent.h"
+
+/* Prices one at a time, and a bill when no prediction is left. */
+enum { PRICING, PREDICTIONS, SEMAPHORES };
+
+static void show(const struct vairolent_host *host, int set)
+{
+    static const char *const names[SEMAPHORES] = {"pricing", "predictions"};
+    struct vairolent_queried_set seen = vairolent_query_set(host, set);
+    if (seen.code != 0)
+        exit(EXIT_FAILURE);
+    for (int i = 0; i < seen.count; i++)
+        printf("%-12s value %d, last process %d, waiting %u for increase and %u for zero\n", names[i], seen.values[i],
+               seen.lasts[i], (unsigned)seen.increase[i], (unsigned)seen.zero[i]);
+    printf("%zu asleep at this set\n\n", seen.judged);
+}
+
+static void operate(struct vairolent_host *host, uint8_t process, int set, unsigned short number, short amount)
+{
+    struct sembuf one = {.sem_num = number, .sem_op = amount, .sem_flg = SEM_UNDO};
+    int32_t code = vairolent_operate(host, process, set, &one, 1).code;
+    if (code != 0 && code != VAIROLENT_ASLEEP)
+        exit(EXIT_FAILURE);
+}
+
+int main(void)
+{
+    struct vairolent_host host = vairolent_fresh();
+    struct vairolent_told told = vairolent_create(&host, SEMAPHORES, VAIROLENT_ALL, VAIROLENT_ALL);
+    if (told.code != 0)
+        return EXIT_FAILURE;
+    int set = (int)told.value;
+    vairolent_set_value(&host, set, PRICING, 1);
+    vairolent_set_value(&host, set, PREDICTIONS, 1);
+
+    for (uint8_t process = 1; process <= 3; process++)
+        operate(&host, process, set, PRICING, -1);
+    operate(&host, 4, set, PREDICTIONS, 0);
+    show(&host, set);
+
+    operate(&host, 1, set, PRICING, 1);
+    operate(&host, 1, set, PREDICTIONS, -1);
+    show(&host, set);
+    return 0;
+}

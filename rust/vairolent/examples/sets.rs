@@ -1,0 +1,115 @@
+//! Holds whole sets, as this package shows them, to ordinary Rust: it replays run files through
+//! both, and compares after every event what each set shows, live or not. What comes out says how
+//! much was compared.
+
+mod through;
+
+use std::process::ExitCode;
+
+use second::{RunFile, State};
+use vairolent::{Error, Host, Semaphore};
+
+const USAGE: &str = "usage: sets FILE...";
+
+fn main() -> ExitCode {
+    let paths: Vec<String> = std::env::args().skip(1).collect();
+    match compare(&paths) {
+        Ok(tally) => {
+            println!(
+                "{} files; sets alike: {}; refused: {}",
+                paths.len(),
+                tally.alike,
+                tally.refused
+            );
+            println!(
+                "arrays judged: {}; of sets beside sleepers of others: {}",
+                tally.judged, tally.beside
+            );
+            ExitCode::SUCCESS
+        }
+        Err(words) => {
+            eprintln!("sets: {words}");
+            ExitCode::FAILURE
+        }
+    }
+}
+
+/// How much was compared.
+#[derive(Default)]
+struct Tally {
+    /// Whole sets that both show alike, and identifiers that both refuse.
+    alike: usize,
+    refused: usize,
+    /// Arrays that were judged; sets with sleepers while others sleep elsewhere.
+    judged: usize,
+    beside: usize,
+}
+
+fn compare(paths: &[String]) -> Result<Tally, String> {
+    if paths.is_empty() {
+        return Err(USAGE.to_string());
+    }
+    let mut tally = Tally::default();
+    for path in paths {
+        let bytes = std::fs::read(path).map_err(|error| format!("{path}: {error}"))?;
+        // A bad file has no events, and so no sets.
+        if let Ok(run) = RunFile::read(&bytes) {
+            replay(&run, &mut tally).map_err(|words| format!("{path}: {words}"))?;
+        }
+    }
+    let came = [tally.alike, tally.refused, tally.judged, tally.beside];
+    if came.contains(&0) {
+        return Err(format!("too little was compared: {came:?}"));
+    }
+    Ok(tally)
+}
+
+/// Every event in both; after each the set of every slot, and an identifier of the next generation.
+fn replay(run: &RunFile, tally: &mut Tally) -> Result<(), String> {
+    let mut host = Host::new();
+    let mut ordinary = second::Host::new(second::Rule::Quick);
+    for (position, event) in run.events().enumerate() {
+        through::run(&mut host, &event, &through::operations(&event));
+        ordinary.handle(&event);
+        let live: Vec<i32> = ordinary.live_sets().map(|(identifier, _)| identifier).collect();
+        let others = live.iter().map(|identifier| identifier + 4);
+        for identifier in live.iter().copied().chain(others).chain([-1, 0, 1, 2, 3]) {
+            one(&host, &ordinary, identifier, tally)
+                .ok_or_else(|| format!("event {position}: set {identifier} is not alike"))?;
+        }
+    }
+    Ok(())
+}
+
+/// One identifier in both; nothing if they differ.
+fn one(host: &Host, ordinary: &second::Host, identifier: i32, tally: &mut Tally) -> Option<()> {
+    match (host.query_set(identifier), ordinary.query_set(identifier)) {
+        (Ok(seen), Ok(wanted)) => {
+            let states: Vec<State> = seen.semaphores().iter().map(state).collect();
+            let alike = states == wanted.states && seen.judged() == wanted.judged;
+            tally.alike += 1;
+            tally.judged += seen.judged();
+            let asleep = ordinary.asleep().count_ones() as usize;
+            tally.beside += usize::from(0 < seen.judged() && seen.judged() < asleep);
+            alike.then_some(())
+        }
+        (Err(Error::Invalid), Err(second::Errno::Einval)) => {
+            tally.refused += 1;
+            Some(())
+        }
+        _ => None,
+    }
+}
+
+/// A semaphore as ordinary Rust shows it; nothing if a count is not the number of ones in its mask.
+fn state(seen: &Semaphore) -> State {
+    assert_eq!(seen.increase, seen.increase_mask.count_ones());
+    assert_eq!(seen.zero, seen.zero_mask.count_ones());
+    State {
+        code: 0,
+        value: seen.value.into(),
+        last: seen.last,
+        for_increase: seen.increase_mask,
+        for_zero: seen.zero_mask,
+    }
+}
