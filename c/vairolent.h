@@ -70,7 +70,7 @@ struct vairolent_queried {
     uint32_t zero;         /* how many wait for zero */
     uint8_t increase_mask; /* which processes wait for an increase: process p has bit p-1 */
     uint8_t zero_mask;     /* which wait for zero */
-    uint32_t looks;        /* 0: a query judges nobody again */
+    uint32_t looks;        /* 0: a query wakes nobody */
 };
 
 /* What a whole set tells: at each number what a query of that semaphore tells; 0 from the set's count on. A sleeper

@@ -35,7 +35,7 @@ use Rattle.host.specs.Queue.{Room}
 use Rattle.host.proofs.ProcessLaws.{of-own}
 use Rattle.host.proofs.SleeperLaws.{zeros-at}
 use Rattle.host.proofs.QueueRows.{array-read-back}
-use Rattle.judging.specs.Stop.{stopFrom}
+use Rattle.judging.specs.Stop.{Stopped, stoppedAt, stopFrom}
 use Rattle.judging.proofs.StopLaws.{stop-in-room}
 use Rattle.service_waking.proofs.LookLaws.{values-read}
 use Rattle.service_waking.proofs.Marking.{shifted, upTo, next-or-not, mask-none, mask-same, mask-next, by-next}
@@ -124,6 +124,10 @@ of-mine slot p (s ∷ q) (also h t) = go (eqb (s .process) p) (of-mine slot p q 
     go true ih = rw (ne-eqb (length (s .array)) 0 (λ e. omega (arith, h))) (some (eqb (s .slot) slot))
     go false ih = ih
 
+-- `slot_byte(..) == slot && size_at(..) != 0`, by what was read
+pub sleeps-here : {a m b n slot : ℕ} → a ≡ m → b ≡ n → a ≡ slot → not (eqb b 0) ≡ (eqb m slot && not (eqb n 0))
+sleeps-here e f h = rw (← e, ← f, eq-eqb _ _ h)
+
 -- ---- where a sleeper stops
 
 sleeps : (o : Outcome) → finishes o ≡ false → o ≡ Sleep
@@ -132,6 +136,10 @@ sleeps Done e = let z : _≡_ {A = ℕ} 0 1 = cc in absurd (omega arith)
 sleeps Sleep e = refl
 sleeps Again e = let z : _≡_ {A = ℕ} 0 1 = cc in absurd (omega arith)
 sleeps Range e = let z : _≡_ {A = ℕ} 0 1 = cc in absurd (omega arith)
+
+-- the operation alone, and the bytes that were lent
+pub stop-lent : (vs : List ℕ) {o : Operation} {left bytes room : List ℕ} → stoppedAt o left ≡ stopFrom (operationsOf bytes) vs → bytes ≡ room → o ≡ stopFrom (operationsOf room) vs .operation
+stop-lent vs e b = ap (λ (y : Stopped). y .operation) (e ∙ ap (λ (l : List ℕ). stopFrom (operationsOf l) vs) b)
 
 -- the sleeper of a process, of a slot
 module _ (x : Host) (k : Held x) (slot : ℕ) (small : slot < slots) {p : ℕ} (seat : Seat p (queueIn (x .row))) (here : mine slot (getD (queueIn (x .row)) (seat .at) noSleeper) ≡ true) where

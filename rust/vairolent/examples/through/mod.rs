@@ -1,4 +1,6 @@
-//! The events of a run file, through this package.
+//! The events of a run file, through this package. Each program uses what it needs of this.
+
+#![allow(dead_code)]
 
 use second::Event;
 use vairolent::{Answer, Error, Host, Operation, Semaphore, Wakings};

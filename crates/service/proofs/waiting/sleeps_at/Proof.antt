@@ -1,7 +1,7 @@
 -- `service::waiting::sleeps_at` meets its contract.
 use borrow.Author.Needs.{needs}
-use borrow.Author.Tests.{eq-eqb, ne-eqb}
-use mathlib.Core.Path.{sym, _∙_}
+use borrow.Author.Tests.{ne-eqb}
+use Rattle.service.proofs.WaitingLaws.{sleeps-here}
 use Rattle.service.proofs.waiting.sleeps_at.Statement.{statement}
 use Rattle.service.proofs.waiting.sleeps_at.Tie as tie
 
@@ -12,7 +12,7 @@ size-at-requires : tie.Need-size-at-requires
 size-at-requires c κs = search needs
 
 returns : tie.Need-returns
-returns c = rw (← c .before .before .slot-byte .ensures, eq-eqb _ _ (c .before .if1 .taken), ← c .size-at .ensures)
+returns c = sleeps-here (c .before .before .slot-byte .ensures) (c .size-at .ensures) (c .before .if1 .taken)
 
 returns-2 : tie.Need-returns-2
 returns-2 c = rw (← c .before .slot-byte .ensures, ne-eqb _ _ (c .if1 .left))

@@ -1,0 +1,129 @@
+//! Measures a screen that shows every semaphore of every set: by whole sets through this package, by
+//! a query of each semaphore, and by whole sets in ordinary Rust, in turn, on the hosts that run
+//! files leave. What comes out is a table in Markdown.
+
+mod through;
+
+use std::process::ExitCode;
+use std::time::{Duration, Instant};
+
+use second::RunFile;
+use vairolent::Host;
+
+const USAGE: &str = "usage: screen ROUNDS FILE...";
+
+/// How often a round shows the screen.
+const TIMES: u32 = 1_000;
+
+fn main() -> ExitCode {
+    let arguments: Vec<String> = std::env::args().skip(1).collect();
+    match table(&arguments) {
+        Ok(text) => {
+            print!("{text}");
+            ExitCode::SUCCESS
+        }
+        Err(words) => {
+            eprintln!("screen: {words}");
+            ExitCode::FAILURE
+        }
+    }
+}
+
+fn table(arguments: &[String]) -> Result<String, String> {
+    let (rounds, paths) = match arguments {
+        [rounds, paths @ ..] if !paths.is_empty() => (rounds.parse::<u32>().ok(), paths),
+        _ => return Err(USAGE.to_string()),
+    };
+    let rounds = rounds.filter(|&rounds| rounds > 0).ok_or(USAGE)?;
+    let mut text =
+        "| File | Semaphores | Asleep | whole sets, ns | queries, ns | ordinary Rust, ns |\n"
+            .to_string();
+    text += "|---|---:|---:|---:|---:|---:|\n";
+    for path in paths {
+        let bytes = std::fs::read(path).map_err(|error| format!("{path}: {error}"))?;
+        let run = RunFile::read(&bytes).map_err(|bad| format!("{path}: bad {}", bad as i32))?;
+        let screen = Screen::after(&run);
+        let [whole, each, ordinary] = screen.best(rounds).ok_or(format!("{path}: not alike"))?;
+        let name = path.rsplit('/').next().unwrap_or(path).trim_end_matches(".run");
+        let semaphores: usize = screen.sets.iter().map(|&(_, count)| usize::from(count)).sum();
+        let asleep = screen.ordinary.asleep().count_ones();
+        text += &format!("| {name} | {semaphores} | {asleep} | {whole} | {each} | {ordinary} |\n");
+    }
+    Ok(text)
+}
+
+/// A host in both, and its live sets, each with its number of semaphores.
+struct Screen {
+    host: Host,
+    ordinary: second::Host,
+    sets: Vec<(i32, u16)>,
+}
+
+impl Screen {
+    /// The host that a run leaves.
+    fn after(run: &RunFile) -> Screen {
+        let mut host = Host::new();
+        let mut ordinary = second::Host::new(second::Rule::Quick);
+        for event in run.events() {
+            through::run(&mut host, &event, &through::operations(&event));
+            ordinary.handle(&event);
+        }
+        let set = |(identifier, set): (i32, &second::Set)| (identifier, u16::from(set.count));
+        let sets = ordinary.live_sets().map(set).collect();
+        Screen { host, ordinary, sets }
+    }
+
+    /// The best nanoseconds of a screen each way; nothing if what they show ever comes to another
+    /// sum.
+    fn best(&self, rounds: u32) -> Option<[u128; 3]> {
+        let ways: [fn(&Screen) -> u64; 3] = [Screen::whole, Screen::each, Screen::ordinary];
+        let mut best = [Duration::MAX; 3];
+        for _ in 0..rounds {
+            let mut sums = [0; 3];
+            for (way, show) in ways.iter().enumerate() {
+                let begin = Instant::now();
+                sums[way] = (0..TIMES).map(|_| show(std::hint::black_box(self))).sum();
+                best[way] = best[way].min(begin.elapsed());
+            }
+            if sums != [sums[0]; 3] {
+                return None;
+            }
+        }
+        Some(best.map(|time| time.as_nanos() / u128::from(TIMES)))
+    }
+
+    /// Values, counts and last processes of all that is shown, added up.
+    fn whole(&self) -> u64 {
+        let shown =
+            self.sets.iter().filter_map(|&(identifier, _)| self.host.query_set(identifier).ok());
+        shown.map(|set| set.semaphores().iter().map(sum).sum::<u64>()).sum()
+    }
+
+    /// The same by a query of each semaphore.
+    fn each(&self) -> u64 {
+        let all = self
+            .sets
+            .iter()
+            .flat_map(|&(identifier, count)| (0..count).map(move |n| (identifier, n)));
+        all.filter_map(|(identifier, n)| self.host.query(identifier, n).ok())
+            .map(|seen| sum(&seen))
+            .sum()
+    }
+
+    /// The same in ordinary Rust.
+    fn ordinary(&self) -> u64 {
+        let sum = |state: &second::State| {
+            let waiting = state.for_increase.count_ones() + state.for_zero.count_ones();
+            state.value as u64 + u64::from(state.last) + u64::from(waiting)
+        };
+        let shown = self
+            .sets
+            .iter()
+            .filter_map(|&(identifier, _)| self.ordinary.query_set(identifier).ok());
+        shown.map(|set| set.states.iter().map(sum).sum::<u64>()).sum()
+    }
+}
+
+fn sum(seen: &vairolent::Semaphore) -> u64 {
+    u64::from(seen.value) + u64::from(seen.last) + u64::from(seen.increase + seen.zero)
+}
