@@ -21,7 +21,6 @@ pub use events::query::query;
 pub use events::remove::remove;
 pub use events::set_value::set_value;
 pub use events::signal::signal;
-pub use whole_set::query_set;
 use host::HOST_BYTES;
 use model::ALL_ADJUSTMENTS;
 use model::Engine;
@@ -29,6 +28,7 @@ use model::Event;
 use model::Reply;
 use model::WAKING_BYTES;
 use wakings::clear;
+pub use whole_set::query_set;
 
 // Any event, told apart once. The bytes of an operate's operations stand beside it.
 pub fn run(

@@ -39,12 +39,7 @@ fn sleeps_at(host: &[u8; HOST_BYTES], process: u8, slot: u8) -> bool
 }
 
 // A sleeper waits at the semaphore of the operation where it stops: for an increase if the amount is negative, else for zero.
-fn wait_at(
-    increase: &mut [u8; SEMAPHORES],
-    zero: &mut [u8; SEMAPHORES],
-    stop: Operation,
-    bit: u8,
-)
+fn wait_at(increase: &mut [u8; SEMAPHORES], zero: &mut [u8; SEMAPHORES], stop: Operation, bit: u8)
     ensures { λ _. ⌜ now (increase .exit) ≡ waitIf (isNegative (stop .amount)) (now (increase .entry)) (stop .number % semaphores) bit ⌝ }
     ensures { λ _. ⌜ now (zero .exit) ≡ waitIf (not (isNegative (stop .amount))) (now (zero .entry)) (stop .number % semaphores) bit ⌝ }
 {
