@@ -82,7 +82,7 @@ impl Screen {
             let mut sums = [0; 3];
             for (way, show) in ways.iter().enumerate() {
                 let begin = Instant::now();
-                sums[way] = (0..TIMES).map(|_| show(std::hint::black_box(self))).sum();
+                sums[way] = (0..TIMES).map(|_| show(self)).sum();
                 best[way] = best[way].min(begin.elapsed());
             }
             if sums != [sums[0]; 3] {

@@ -59,7 +59,7 @@ fn done_by_an_exit() {
 fn the_last_process_of_all_that_is_named() {
     let (mut host, set) = with_set(3);
     let lasts = |host: &Host| [0, 1, 2].map(|number| host.query(set, number).expect("seen").last);
-    done(&mut host, 4, set, &[Operation::new(0, 0), Operation::new(1, 1)]);
+    let _ = done(&mut host, 4, set, &[Operation::new(0, 0), Operation::new(1, 1)]);
     assert_eq!(lasts(&host), [4, 4, 0]);
     sleep(&mut host, set, &[2], &[Operation::new(0, 0), Operation::new(1, 0)]);
     assert_eq!(lasts(&host), [4, 4, 0]);
