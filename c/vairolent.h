@@ -44,8 +44,9 @@ struct vairolent_waking {
 /* All that the service holds: the sets and their sleepers in a row of bytes, the undo adjustments, and the wakings
  * of the last event.
  *
- * The premise of every event: the host handed in is as vairolent_fresh or the last event left it, byte for byte;
- * nothing checks that when the program runs, and of any other host nothing is promised. A copy of a host is a host. */
+ * The premise of every event, and of showing a whole set: the host handed in is as vairolent_fresh or the last event
+ * left it, byte for byte; nothing checks that when the program runs, and of any other host nothing is promised. A copy
+ * of a host is a host. */
 struct vairolent_host {
     uint8_t row[VAIROLENT_ROW_BYTES];
     int16_t adjustments[VAIROLENT_ADJUSTMENTS];
@@ -57,7 +58,7 @@ struct vairolent_host {
 struct vairolent_told {
     int32_t code;   /* 0, VAIROLENT_ASLEEP, or why the event is refused */
     uint32_t value; /* a create's: the identifier of its set; 0 of every other event */
-    size_t looks;   /* how many times a sleeper was judged again */
+    size_t looks;   /* how many times a sleeper was judged again, to see whether it wakes */
     size_t woken;   /* how many were woken: the first of the host's wakings, in the order in which they were ended */
 };
 
@@ -73,12 +74,13 @@ struct vairolent_queried {
     uint32_t looks;        /* 0: a query wakes nobody */
 };
 
-/* What a whole set tells: at each number what a query of that semaphore tells; 0 from the set's count on. A sleeper
- * waits at one semaphore alone, so the wait counts of a set add up to the arrays that were judged. */
+/* What a whole set tells: at each number what a query of that semaphore tells; 0 from the set's count on. Each sleeper
+ * of the set is judged once for it, which is no look, and waits at one semaphore alone: so the wait counts of a set add
+ * up to the arrays that were judged. */
 struct vairolent_queried_set {
     int32_t code;                                 /* 0, or why it is refused; then all else is 0 */
     uint8_t count;                                /* how many semaphores the set has */
-    size_t judged;                                /* how many arrays were judged: each sleeper's of the set, once */
+    uint32_t judged;                              /* how many arrays were judged: one for each sleeper of the set */
     uint16_t values[VAIROLENT_SEMAPHORES];        /* 0 to 32,767 */
     uint8_t lasts[VAIROLENT_SEMAPHORES];          /* the last process whose done array names it, 0 if none */
     uint32_t increase[VAIROLENT_SEMAPHORES];      /* how many sleepers wait there for an increase */
@@ -107,8 +109,9 @@ struct vairolent_limits vairolent_limits(void);
 /* A fresh host: four free slots, every number and adjustment 0, no sleepers. */
 struct vairolent_host vairolent_fresh(void);
 
-/* The seven events. Each has a function of the archive, NAME_in, whose promise is proved; it takes the parts of a host,
- * which lie apart from each other and from the operations. NAME takes a whole host and hands its parts on.
+/* The seven events, and a whole set shown. Each has a function of the archive, NAME_in, whose promise is proved; it
+ * takes the parts of a host, which lie apart from each other and from the operations. NAME takes a whole host and hands
+ * its parts on.
  *
  * How sleepers are woken: those of the set whose arrays name a semaphore whose value changed or was set are judged
  * again, oldest first. One that no longer sleeps is woken, with 0 and its array applied (it is then the last process of
@@ -203,8 +206,8 @@ static inline struct vairolent_queried vairolent_query(const struct vairolent_ho
     return vairolent_query_in(host->row, host->adjustments, identifier, number);
 }
 
-/* Shows a whole set: all its semaphores, by judging each of its sleepers once, where a query of each would judge them
- * again and again. It is no event: the host stays as it is, and nobody is looked at.
+/* Shows a whole set: all its semaphores, by judging each of its sleepers once, where a query of each semaphore would
+ * judge them again and again. It is no event: the host stays as it is.
  * Refused: EINVAL no such set. */
 struct vairolent_queried_set vairolent_query_set_in(const uint8_t *row, const int16_t *adjustments,
                                                     int32_t identifier);

@@ -17,15 +17,18 @@ static void show(const struct vairolent_host *host, int set)
     for (int i = 0; i < seen.count; i++)
         printf("%-12s value %d, last process %d, waiting %u for increase and %u for zero\n", names[i], seen.values[i],
                seen.lasts[i], (unsigned)seen.increase[i], (unsigned)seen.zero[i]);
-    printf("%zu asleep at this set\n\n", seen.judged);
+    printf("%u asleep at this set\n\n", (unsigned)seen.judged);
 }
 
+/* Says who is woken, since each of them sleeps until it is told. */
 static void operate(struct vairolent_host *host, uint8_t process, int set, unsigned short number, short amount)
 {
     struct sembuf one = {.sem_num = number, .sem_op = amount, .sem_flg = SEM_UNDO};
-    int32_t code = vairolent_operate(host, process, set, &one, 1).code;
-    if (code != 0 && code != VAIROLENT_ASLEEP)
+    struct vairolent_told told = vairolent_operate(host, process, set, &one, 1);
+    if (told.code != 0 && told.code != VAIROLENT_ASLEEP)
         exit(EXIT_FAILURE);
+    for (size_t i = 0; i < told.woken; i++)
+        printf("process %d goes on\n", host->wakings[i].process);
 }
 
 int main(void)

@@ -79,6 +79,34 @@ static int file_code(void)
     return code;
 }
 
+/* Notes what does not hold. */
+static int faults;
+
+static void want(const char *what, int holds)
+{
+    if (holds)
+        return;
+    faults++;
+    fprintf(stderr, "replay: it does not hold that %s\n", what);
+}
+
+/* Does the whole set show the same at this number, and do its counts add up? */
+static void check_set(struct vairolent_queried_set set, uint16_t number, struct vairolent_queried seen)
+{
+    size_t waiting = 0;
+    for (size_t i = 0; i < VAIROLENT_SEMAPHORES; i++)
+        waiting += set.increase[i] + set.zero[i];
+    want("the wait counts of a set are the arrays that were judged", waiting == set.judged);
+    want("a query is refused where the whole set is, or has no such number",
+         (seen.code != 0) == (set.code != 0 || number >= set.count));
+    if (seen.code != 0)
+        return;
+    want("the whole set shows what a query shows",
+         set.values[number] == seen.value && set.lasts[number] == seen.last && set.increase[number] == seen.increase &&
+             set.zero[number] == seen.zero && set.increase_masks[number] == seen.increase_mask &&
+             set.zero_masks[number] == seen.zero_mask);
+}
+
 /* The operations are copied to where a struct sembuf may lie. */
 static struct vairolent_told operate(const uint8_t *body)
 {
@@ -115,35 +143,7 @@ static void write_told(struct vairolent_told told)
     putchar('\n');
 }
 
-/* Notes what does not hold. */
-static int faults;
-
-static void want(const char *what, int holds)
-{
-    if (holds)
-        return;
-    faults++;
-    fprintf(stderr, "replay: it does not hold that %s\n", what);
-}
-
-/* Does the whole set show the same at this number, and do its counts add up? */
-static void check_set(struct vairolent_queried_set set, uint16_t number, struct vairolent_queried seen)
-{
-    size_t waiting = 0;
-    for (size_t i = 0; i < VAIROLENT_SEMAPHORES; i++)
-        waiting += set.increase[i] + set.zero[i];
-    want("the wait counts of a set are the arrays that were judged", waiting == set.judged);
-    want("a query is refused where the whole set is, or has no such number",
-         (seen.code != 0) == (set.code != 0 || number >= set.count));
-    if (seen.code != 0)
-        return;
-    want("the whole set shows what a query shows",
-         set.values[number] == seen.value && set.lasts[number] == seen.last && set.increase[number] == seen.increase &&
-             set.zero[number] == seen.zero && set.increase_masks[number] == seen.increase_mask &&
-             set.zero_masks[number] == seen.zero_mask);
-}
-
-/* .. of a query's. */
+/* .. of a query's. A wait count is the number of ones in its mask. */
 static void write_queried(struct vairolent_queried seen)
 {
     printf(" %" PRId32 " %d %d %" PRIu32 " %" PRIu32 "\n", seen.code, seen.value, seen.last, seen.increase, seen.zero);

@@ -29,9 +29,8 @@ use Rattle.model.specs.Runs.{All}
 use Rattle.model.proofs.Lists.{first, rest, all-getD}
 use Rattle.model.proofs.JudgeLaws.{either, Fine, step-fine, next-small}
 use Rattle.judging.specs.Value.{valueOf}
-use Rattle.judging.specs.Stop.{movedTo, Stopped, stoppedAt, stopFrom}
+use Rattle.judging.specs.Stop.{movedTo, stoppedAt, stopFrom}
 use Rattle.judging.proofs.Operations as operations
-use Rattle.judging.proofs.Signed.{clash}
 use Rattle.judging.proofs.Values.{tested, next-is}
 
 -- ---- the turns of the loop: o is the i-th operation of the bytes, n its number within a set, and new where its amount leads

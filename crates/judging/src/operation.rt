@@ -6,14 +6,14 @@ ghost use Rattle.model.specs.Operation.{two, signed16, operationAt, hasBit};
 use model::Operation;
 
 // Two bytes.
-pub fn half(low: u8, high: u8) -> u16
+fn half(low: u8, high: u8) -> u16
     ensures { λ r. ⌜ r ≡ two low high ⌝ }
 {
     (low as u16) + 256 * (high as u16)
 }
 
 // Sixteen bits as a signed number.
-pub fn signed_of(raw: u16) -> i16
+fn signed_of(raw: u16) -> i16
     ensures { λ r. ⌜ r ≡ signed16 raw ⌝ }
 {
     if raw < 32768 {

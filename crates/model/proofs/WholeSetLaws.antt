@@ -5,17 +5,15 @@ use native.Mathlib.Nat.{le-of-suc-le-suc}
 use native.Mathlib.Omega.{arith}
 use mathlib.Core.Path.{_≡_, refl, sym, ap, ap₂, _∙_}
 use mathlib.Core.Bool.{Bool, true, false, cond, not, _&&_}
-use mathlib.Core.List.{List, [], _∷_}
-use lib.Dec.{eqb, leb}
+use mathlib.Core.List.{List, _∷_}
+use lib.Dec.{eqb}
 use lib.IntN.{ℤ, pos}
 use lib.ListN.{length, getD}
 use lib.Seq.{ext-getD}
 use borrow.Author.Tests.{eqb-true, eqb-false, ne-eqb}
-use Rattle.model.specs.declared.QueriedSet.{QueriedSet}
-use Rattle.model.specs.declared.Set.{Set}
 use Rattle.model.specs.declared.Operation.{Operation}
 use Rattle.model.specs.Limits.{slots, semaphores}
-use Rattle.model.specs.State.{Table, Sleeper, State, noSet, row}
+use Rattle.model.specs.State.{Sleeper, State, row}
 use Rattle.model.specs.Operation.{operationsOf, isNegative}
 use Rattle.model.specs.Look.{look}
 use Rattle.model.specs.Marks.{mine, maskOf}
@@ -25,10 +23,10 @@ use Rattle.model.specs.Counts.{noOperation, stop, stopsAt, forIncrease, 
 use Rattle.model.specs.Events.{Seen, Answer, answer, nothingSeen, seenAt, doQuery}
 use Rattle.model.specs.WholeSet.{eachFrom, each, shownAt, setChecked, querySet, total, AsQueried}
 use Rattle.model.specs.Runs.{All, none, also, Reached, Stuck}
-use Rattle.model.specs.Invariant.{Invariant, Fits, Unused, countAt}
-use Rattle.model.proofs.Lists.{all-map, all-zip, all-getD}
+use Rattle.model.specs.Invariant.{Invariant, countAt}
+use Rattle.model.proofs.Lists.{all-map, all-getD}
 use Rattle.model.proofs.LookLaws.{count-fits}
-use Rattle.model.proofs.CheckLaws.{alive, set-passes}
+use Rattle.model.proofs.CheckLaws.{alive, number-passes, set-passes}
 use Rattle.model.proofs.Engines.{reached}
 
 -- ---- numbers, one for each semaphore
@@ -54,10 +52,10 @@ module _ (f : ℕ → ℕ) where
 
 -- ---- at each number
 
-module _ (s : State) (i : ℤ) (n : ℕ) (small : n < semaphores) where
-  shown-at : checkSet s i ≡ 0 → {a : Answer} → pos 0 ≡ a .code → getD (s .table .values) (row (slotOf i) + n) 0 ≡ a .value → seenAt s (slotOf i) n ≡ a .seen → AsQueried a (querySet s i) n
+module _ (s : State) (i : ℤ) (n : ℕ) where
+  shown-at : n < semaphores → checkSet s i ≡ 0 → {a : Answer} → pos 0 ≡ a .code → getD (s .table .values) (row (slotOf i) + n) 0 ≡ a .value → seenAt s (slotOf i) n ≡ a .seen → AsQueried a (querySet s i) n
   unfolding querySet shownAt
-  shown-at z {a} ec ev es =
+  shown-at small z {a} ec ev es =
       rw z
       (record {
         code = ec;
@@ -69,10 +67,12 @@ module _ (s : State) (i : ℤ) (n : ℕ) (small : n < semaphores) where
         zeroMask = each-at _ n small ∙ ap (λ (x : Seen). x .zeroMask) es;
       })
 
-  -- "a function that gives .. the values, counts and masks of all its semaphores": those of a query
-  pub set-as-queried : checkNumber s i n ≡ 0 → AsQueried (doQuery s i n .answer) (querySet s i) n
+  -- what a query of that semaphore shows
+  pub set-as-queried : Reached s → checkNumber s i n ≡ 0 → AsQueried (doQuery s i n .answer) (querySet s i) n
   unfolding doQuery checkNumber checkSet
-  set-as-queried z = rw z (shown-at (named (namesSet (s .sets) i) _ z) refl refl refl)
+  set-as-queried r z =
+      let small : n < semaphores = omega (arith, number-passes s i n z .number, count-fits (reached r .counts) (slotOf i)) in
+      rw z (shown-at small (named (namesSet (s .sets) i) _ z) refl refl refl)
     where
       named : (b : Bool) (later : ℕ) → check (not b) 22 later ≡ 0 → check (not b) 22 0 ≡ 0
       named true later e = refl
@@ -81,10 +81,10 @@ module _ (s : State) (i : ℤ) (n : ℕ) (small : n < semaphores) where
 -- ---- where a sleeper of a state stops: at a semaphore that its set has
 
 module _ (s : State) (v : Invariant s) where
-  abbrev Stops : Sleeper → Type 0
+  abbrev pub Stops : Sleeper → Type 0
   Stops q = stop (s .table) q .number < countAt (s .sets) (q .slot)
 
-  stops : All Stops (s .queue)
+  pub stops : All Stops (s .queue)
   unfolding stop
   stops = all-map (λ q f. all-getD (λ (o : Operation). o .number < countAt (s .sets) (q .slot)) (operationsOf (q .array)) (look (s .table) q .position) noOperation (f .numbers) (alive (s .sets) q f)) (v .fits)
 

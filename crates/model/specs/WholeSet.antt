@@ -1,5 +1,5 @@
 -- A whole set: what a query of each of its semaphores shows, and how many arrays are judged for that. "The reviewer's screen
--- asks for every semaphore's counts each second."
+-- asks for every semaphore's counts."
 use Prim.Native.Nat.{ℕ, zero, suc, _+_}
 use mathlib.Core.Path.{_≡_}
 use mathlib.Core.List.{List, [], _∷_}
@@ -38,7 +38,7 @@ shownAt s slot =
 abbrev noughts : List ℕ
 noughts = replicate semaphores 0
 
--- refused: "a refused query walks nobody", and every number is 0
+-- refused: nobody is judged, and every number is 0
 abbrev pub setRefused : ℕ → QueriedSet
 setRefused code =
     record {

@@ -154,7 +154,7 @@ pub struct Queried {
 pub struct QueriedSet {
     pub code: i32,
     pub count: u8,
-    pub judged: usize,
+    pub judged: u32,
     pub values: [u16; SEMAPHORES],
     pub lasts: [u8; SEMAPHORES],
     pub increase: [u32; SEMAPHORES],

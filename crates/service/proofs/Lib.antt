@@ -3,5 +3,6 @@ pub mod EventLaws
 pub mod SlotLaws
 pub mod WaitingLaws
 pub mod QueryLaws
+pub mod SetShown
 pub mod ReplyLaws
 pub mod Calls

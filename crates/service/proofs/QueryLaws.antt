@@ -1,38 +1,25 @@
--- A query, and a whole set.
-use Prim.Native.Nat.{ℕ, zero, suc, _+_, _≤_, _<_}
-use native.Mathlib.Nat.{add-zero}
+-- A query: its semaphore's masks out of those of its set.
+use Prim.Native.Nat.{ℕ, zero, suc, _+_, _<_}
 use native.Mathlib.Omega.{arith}
-use mathlib.Core.Path.{_≡_, refl, sym, ap, _∙_}
-use mathlib.Core.Logic.{⊎-elim}
-use mathlib.Core.Bool.{Bool}
-use mathlib.Core.List.{List, _∷_}
+use mathlib.Core.Path.{_≡_, refl, ap, _∙_}
 use lib.Count.{ones}
 use lib.IntN.{ℤ, pos}
-use lib.ListN.{length, getD, set, length-set}
-use lib.Seq.{getD-set-same, getD-set-other}
-use Rattle.model.specs.declared.QueriedSet.{QueriedSet}
-use Rattle.model.specs.declared.Set.{Set}
+use lib.ListN.{getD}
 use Rattle.model.specs.Limits.{slots, semaphores}
-use Rattle.model.specs.State.{Sleeper, row}
+use Rattle.model.specs.State.{row}
 use Rattle.model.specs.Marks.{maskOf}
-use Rattle.model.specs.Checks.{slotOf, checkNumber, checkSet}
-use Rattle.model.specs.Counts.{forIncrease, forZero, countOf}
+use Rattle.model.specs.Checks.{slotOf, checkNumber}
+use Rattle.model.specs.Counts.{forIncrease, forZero}
 use Rattle.model.specs.Events.{Result, answer, checked, seenAt, doQuery}
-use Rattle.model.specs.WholeSet.{eachFrom, each, shownAt, setRefused, setChecked, querySet}
-use Rattle.model.proofs.CheckLaws.{number-passes, set-passes}
+use Rattle.model.proofs.CheckLaws.{number-passes}
 use Rattle.model.proofs.Ones.{ones-mask}
-use Rattle.model.proofs.WholeSetLaws.{each-at, each-long, each-is}
+use Rattle.model.proofs.WholeSetLaws.{each-at}
 use Rattle.host.specs.Parts.{values, lasts}
-use Rattle.host.specs.Rows.{from}
-use Rattle.host.specs.Holding.{Host, setAt, queueIn, tableIn, stateIn, Held}
-use Rattle.host.proofs.PartLaws.{less-or-not}
-use Rattle.host.proofs.SetRows.{set-in}
+use Rattle.host.specs.Holding.{Host, queueIn, tableIn, stateIn, Held}
 use Rattle.service.specs.declared.waiting.Waiters.{Waiters}
 use Rattle.service.specs.After.{queriedOf, showing}
 use Rattle.service.specs.Waiting.{waitersOf}
 use Rattle.service.proofs.EventLaws.{held-invariant, held-counts}
-
--- ---- query
 
 refuses : (code : ℕ) (r : Result) (s : _) → (code ≡ 0 → ⊥) → showing (answer (pos code)) 0 ≡ queriedOf (checked code s r)
 refuses zero r s n = absurd (n refl)
@@ -72,78 +59,3 @@ module _ (x : Host) (k : Held x) (i : ℤ) (n : ℕ) where
       let a = ones-mask (forIncrease (tableIn x) (slotOf i) n) (queueIn (x .row)) (v .fits) (v .distinct) in
       let b = ones-mask (forZero (tableIn x) (slotOf i) n) (queueIn (x .row)) (v .fits) (v .distinct) in
       rw (mi, mz, ev, el, z, es, a, b)
-
--- ---- a whole set
-
--- the loop: the first n masks are counted
-pub record Counting (masks counts : List ℕ) (n : ℕ) : Type 0 where
-  pub within : n ≤ semaphores
-  pub long : length counts ≡ semaphores
-  pub same : (j : ℕ) → j < n → getD counts j 0 ≡ ones (getD masks j 0)
-
-module _ {masks counts : List ℕ} where
-  pub counted-none : length counts ≡ semaphores → Counting masks counts 0
-  counted-none e = record { within = omega arith; long = e; same = λ j l. absurd (omega arith) }
-
-  pub counted-more : {n x : ℕ} → Counting masks counts n → n < semaphores → x ≡ ones (getD masks n 0) → Counting masks (set counts n x) (n + 1)
-  counted-more {n} {x} w l e =
-      record {
-        within = omega arith;
-        long = length-set counts n x ∙ w .long;
-        same = λ j m. ⊎-elim
-            (λ (h : j < n). getD-set-other counts n j x 0 (λ z. omega arith) ∙ w .same j h)
-            (λ (h : n ≤ j). let z : j ≡ n = omega arith in rw z (getD-set-same counts n x 0 (omega (arith, w .long)) ∙ e))
-            (less-or-not j n);
-      }
-
-  pub counted-all : {n : ℕ} → Counting masks counts n → semaphores ≤ n → counts ≡ each (λ (j : ℕ). ones (getD masks j 0))
-  counted-all {n} w l = each-is _ counts (w .long) (λ j h. w .same j (omega arith))
-
--- elements from a place on, one for each semaphore
-from-each : (l : List ℕ) (at k n : ℕ) → from 0 n (at + k) l ≡ eachFrom (λ (j : ℕ). getD l (at + j) 0) k n
-unfolding from eachFrom
-from-each l at k zero = refl
-from-each l at k (suc n) =
-    let e : at + k + 1 ≡ at + (k + 1) = omega arith in
-    rw e (ap (λ (r : List ℕ). getD l (at + k) 0 ∷ r) (from-each l at (k + 1) n))
-
-from-all : (l : List ℕ) (at : ℕ) → from 0 semaphores at l ≡ each (λ (j : ℕ). getD l (at + j) 0)
-from-all l at = ap (λ (m : ℕ). from 0 semaphores m l) (sym (add-zero at)) ∙ from-each l at 0 semaphores
-
-each-same : (f g : ℕ → ℕ) → ((n : ℕ) → n < semaphores → f n ≡ g n) → each f ≡ each g
-each-same f g h = each-is g (each f) (each-long f 0 semaphores) (λ n l. each-at f n l ∙ h n l)
-
-refuses-set : (code : ℕ) (shown : QueriedSet) → (code ≡ 0 → ⊥) → setRefused code ≡ setChecked code shown
-refuses-set zero shown n = absurd (n refl)
-refuses-set (suc code) shown n = refl
-
-module _ (x : Host) (i : ℤ) where
-  pub set-refused : {code : ℕ} → code ≡ checkSet (stateIn x) i → (code ≡ 0 → ⊥) → setRefused code ≡ querySet (stateIn x) i
-  unfolding querySet
-  set-refused {code} e z = rw (← e) (refuses-set code _ z)
-
-  pub set-small : checkSet (stateIn x) i ≡ 0 → {slot : ℕ} → slot ≡ slotOf i → slot < slots
-  set-small z e = omega (arith, e, set-passes (stateIn x) i z .slot)
-
-  -- each number is what a query of its semaphore shows
-  pub set-shown : Held x → {slot : ℕ} {set : Set} {w : Waiters} {vs ls is zs : List ℕ} → checkSet (stateIn x) i ≡ 0 → slot ≡ slotOf i → set ≡ setAt (x .row) slot
-      → w ≡ waitersOf (tableIn x) slot (queueIn (x .row)) → vs ≡ from 0 semaphores (row slot) (x .row values) → ls ≡ from 0 semaphores (row slot) (x .row lasts)
-      → is ≡ each (λ (n : ℕ). ones (getD (w .increase) n 0)) → zs ≡ each (λ (n : ℕ). ones (getD (w .zero) n 0))
-      → record {
-        code = pos 0;
-        count = set .count;
-        judged = w .judged;
-        values = vs;
-        lasts = ls;
-        increase = is;
-        zero = zs;
-        «increase_masks» = w .increase;
-        «zero_masks» = w .zero;
-      }
-      ≡ querySet (stateIn x) i
-  unfolding querySet shownAt seenAt
-  set-shown k {slot} {set} {w} {vs} {ls} {is} {zs} z es et ew ev el ei ez =
-      let v = held-invariant x k in
-      let counts : (tests : ℕ → Sleeper → Bool) → each (λ (n : ℕ). ones (getD (each (λ (j : ℕ). maskOf (tests j) 0 (queueIn (x .row)))) n 0)) ≡ each (λ (n : ℕ). countOf (tests n) (queueIn (x .row))) =
-      λ tests. each-same _ _ (λ n l. ap ones (each-at _ n l) ∙ ones-mask (tests n) (queueIn (x .row)) (v .fits) (v .distinct)) in
-      rw (ev, el, ei, ez, ew, et, z, es, from-all (x .row values) (row (slotOf i)), from-all (x .row lasts) (row (slotOf i)), counts (forIncrease (tableIn x) (slotOf i)), counts (forZero (tableIn x) (slotOf i)), set-in (x .row) (slotOf i) (set-passes (stateIn x) i z .slot))

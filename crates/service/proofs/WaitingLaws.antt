@@ -1,36 +1,37 @@
 -- Who waits at the semaphores of a set: the operation where a sleeper stops, and a walk over the processes that gathers masks
 -- and counts.
-use Prim.Native.Nat.{ℕ, zero, suc, _+_, _*_, _%_, _^_, _≤_, _<_}
-use native.Mathlib.Nat.{add-zero, mod-eq-of-lt, zero-lt-suc}
+use Prim.Native.Nat.{ℕ, suc, _+_, _-_, _%_, _^_, _≤_, _<_}
+use native.Mathlib.Nat.{mod-eq-of-lt, zero-lt-suc}
 use native.Mathlib.Omega.{arith}
 use mathlib.Core.Path.{_≡_, refl, sym, ap, ap₂, subst, _∙_}
 use mathlib.Core.Bool.{Bool, true, false, cond, not, _&&_}
 use mathlib.Core.List.{List, [], _∷_}
 use lib.Bits.{bitOr, or-zero-r}
+use lib.Count.{ones}
 use lib.Dec.{eqb}
 use lib.ListN.{length, getD, replicate, length-set}
 use lib.Seq.{getD-set-same, getD-set-other}
-use borrow.Author.Tests.{eqb-true, eqb-false, eq-eqb, ne-eqb, le-leb, lt-leb}
+use borrow.Author.Tests.{eqb-true, eqb-false, eq-eqb, ne-eqb}
 use Rattle.model.specs.declared.Operation.{Operation}
 use Rattle.model.specs.declared.Outcome.{Outcome}
 use Rattle.model.specs.declared.Outcome.the-variants.{Done, Sleep, Again, Range}
 use Rattle.model.specs.Limits.{slots, semaphores, processes}
 use Rattle.model.specs.State.{Table, Sleeper, noSleeper, row}
-use Rattle.model.specs.Operation.{operationsOf, isNegative}
+use Rattle.model.specs.Operation.{operationsOf, isNegative, hasBit}
 use Rattle.model.specs.Judge.{finishes, judge}
 use Rattle.model.specs.Look.{valuesOf, look, copiesOf}
-use Rattle.model.specs.Marks.{mine, maskOf}
-use Rattle.model.specs.Counts.{noOperation, stop, stopsAt, forIncrease, forZero, countOf}
+use Rattle.model.specs.Marks.{bitOf, mine, maskOf}
+use Rattle.model.specs.Counts.{noOperation, stop, stopsAt, forIncrease, forZero, judgedAt}
 use Rattle.model.specs.WholeSet.{each}
 use Rattle.model.specs.Runs.{All, none, also}
 use Rattle.model.specs.Invariant.{Distinct}
-use Rattle.model.proofs.Lists.{all-at, all-map, all-getD}
+use Rattle.model.proofs.Lists.{all-at, all-map}
 use Rattle.model.proofs.LookLaws.{copies-fine, numbers-fit}
-use Rattle.model.proofs.QueueLaws.{others-first, distinct-rest}
-use Rattle.model.proofs.WholeSetLaws.{each-is}
+use Rattle.model.proofs.Ones.{ones-mask}
+use Rattle.model.proofs.WholeSetLaws.{each-is, stops}
 use Rattle.host.specs.Parts.{Row, values, sleepsAt, sizes}
 use Rattle.host.specs.Rows.{from}
-use Rattle.host.specs.Holding.{Host, Held, ofProcess, theSlot, theSize, entry, roomIn, arrayIn, queueIn, tableIn}
+use Rattle.host.specs.Holding.{Host, Held, ofProcess, theSlot, theSize, entry, roomIn, arrayIn, queueIn, tableIn, stateIn}
 use Rattle.host.specs.Queue.{Room}
 use Rattle.host.proofs.ProcessLaws.{of-own}
 use Rattle.host.proofs.SleeperLaws.{zeros-at}
@@ -38,43 +39,9 @@ use Rattle.host.proofs.QueueRows.{array-read-back}
 use Rattle.judging.specs.Stop.{Stopped, stoppedAt, stopFrom}
 use Rattle.judging.proofs.StopLaws.{stop-in-room}
 use Rattle.service_waking.proofs.LookLaws.{values-read}
-use Rattle.service_waking.proofs.Marking.{shifted, upTo, next-or-not, mask-none, mask-same, mask-next, by-next}
-use Rattle.service.specs.declared.waiting.Waiters.{Waiters}
+use Rattle.service_waking.proofs.ByProcess.{upTo, mask-start, mask-end, mask-next, mask-lacks, by-next}
 use Rattle.service.specs.Waiting.{waitersOf, waitIf}
-use Rattle.service.proofs.EventLaws.{held-invariant, held-row}
-
--- ---- counting the processes to n
-
-module _ (test : Sleeper → Bool) where
-  -- another test that says the same of everybody
-  count-same : (other : Sleeper → Bool) {q : List Sleeper} → All (λ (s : Sleeper). test s ≡ other s) q → countOf test q ≡ countOf other q
-  unfolding countOf
-  count-same other none = refl
-  count-same other (also {x = s} h t) = rw h (ap (λ (n : ℕ). cond (other s) 1 0 + n) (count-same other t))
-
-  -- nobody passes
-  count-none : {q : List Sleeper} → All (λ (s : Sleeper). test s ≡ false) q → 0 ≡ countOf test q
-  unfolding countOf
-  count-none none = refl
-  count-none (also h t) = rw h (omega (arith, count-none t))
-
-module _ (test : Sleeper → Bool) where
-  -- one process more: the sleeper that is of it
-  count-next : (n : ℕ) (q : List Sleeper) → Distinct q → countOf (upTo test (n + 1)) q ≡ countOf (upTo test n) q + cond (ofProcess false test (n + 1) q) 1 0
-  unfolding countOf ofProcess
-  count-next n [] d = refl
-  count-next n (s ∷ q) d = go (eqb (s .process) (n + 1)) refl (count-next n q (distinct-rest d))
-    where
-      -- nobody behind it is of its process
-      here : s .process ≡ n + 1 → cond (upTo test (n + 1) s) 1 0 + countOf (upTo test (n + 1)) q ≡ cond (upTo test n s) 1 0 + countOf (upTo test n) q + cond (test s) 1 0
-      here p =
-          rw (le-leb (s .process) (n + 1) (omega arith), lt-leb (s .process) n (omega arith))
-          (omega (arith, count-same (upTo test (n + 1)) (upTo test n) (all-map (λ x o. ap (λ (b : Bool). b && test x) (next-or-not (x .process) n (λ e. o (e ∙ sym p)))) (others-first d))))
-
-      go : (b : Bool) → eqb (s .process) (n + 1) ≡ b → countOf (upTo test (n + 1)) q ≡ countOf (upTo test n) q + cond (ofProcess false test (n + 1) q) 1 0
-          → cond (upTo test (n + 1) s) 1 0 + countOf (upTo test (n + 1)) q ≡ cond (upTo test n s) 1 0 + countOf (upTo test n) q + cond (cond b (test s) (ofProcess false test (n + 1) q)) 1 0
-      go true e ih = here (eqb-true (s .process) (n + 1) e)
-      go false e ih = rw (next-or-not (s .process) n (eqb-false (s .process) (n + 1) e)) (omega (arith, ih))
+use Rattle.service.proofs.EventLaws.{held-invariant, held-row, held-counts}
 
 -- ---- the sleeper of a process
 
@@ -125,8 +92,8 @@ of-mine slot p (s ∷ q) (also h t) = go (eqb (s .process) p) (of-mine slot p q 
     go false ih = ih
 
 -- `slot_byte(..) == slot && size_at(..) != 0`, by what was read
-pub sleeps-here : {a m b n slot : ℕ} → a ≡ m → b ≡ n → a ≡ slot → not (eqb b 0) ≡ (eqb m slot && not (eqb n 0))
-sleeps-here e f h = rw (← e, ← f, eq-eqb _ _ h)
+pub sleeps-here : (slot : ℕ) {a m b n : ℕ} → a ≡ m → b ≡ n → a ≡ slot → not (eqb b 0) ≡ (eqb m slot && not (eqb n 0))
+sleeps-here slot e f h = rw (← e, ← f, eq-eqb _ _ h)
 
 -- ---- where a sleeper stops
 
@@ -173,12 +140,10 @@ module _ (x : Host) (k : Held x) (slot : ℕ) (small : slot < slots) {p : ℕ} (
         ∙ ap (λ (a : List ℕ). getD (operationsOf a) (judge (copiesOf t sleeper) (operationsOf a) .position) noOperation) array-own
 
     number-small : o .number < semaphores
-    unfolding stop
     number-small =
         let v = held-invariant x k in
-        let f = all-at (queueIn (x .row)) (seat .at) noSleeper (v .fits) (seat .there) in
-        subst (λ (y : Operation). y .number < semaphores) (sym stop-is)
-        (all-getD (λ (y : Operation). y .number < semaphores) (operationsOf (sleeper .array)) (look (tableIn x) sleeper .position) noOperation (numbers-fit (v .counts) sleeper f) (omega arith))
+        let l = all-at (queueIn (x .row)) (seat .at) noSleeper (stops (stateIn x) v) (seat .there) in
+        omega (arith, ap (λ (y : Operation). y .number) stop-is, l, held-counts x k (sleeper .slot))
 
     for-increase : (n : ℕ) → forIncrease (tableIn x) slot n (getD (queueIn (x .row)) (seat .at) noSleeper) ≡ eqb (o .number) n && isNegative (o .amount)
     unfolding forIncrease stopsAt
@@ -189,6 +154,9 @@ module _ (x : Host) (k : Held x) (slot : ℕ) (small : slot < slots) {p : ℕ} (
     for-zero n = rw (here, stuck, stop-is)
 
 -- ---- masks, one for each semaphore
+
+bit-next : (n : ℕ) → bitOf (n + 1) ≡ 2 ^ n
+bit-next n = let e : n + 1 - 1 ≡ n = omega arith in ap (λ (m : ℕ). 2 ^ m) e
 
 -- a mask gets the bit if the process waits there
 wait-if : (masks : List ℕ) (n k bit : ℕ) (b : Bool) → n < semaphores → length masks ≡ semaphores
@@ -215,7 +183,7 @@ module _ (tests : ℕ → Sleeper → Bool) (q : List Sleeper) where
   gathered-none f =
       record {
         long = refl;
-        same = λ k l. sym (zeros-at semaphores k) ∙ sym (mask-none (upTo (tests k) 0) 0 (all-map (λ s h. ap (λ (b : Bool). b && tests k s) (lt-leb (s .process) 0 (omega (arith, h .process)))) f));
+        same = λ k l. sym (zeros-at semaphores k) ∙ sym (mask-start (tests k) 0 f);
       }
 
   -- one process more, with a bit where it passes
@@ -230,16 +198,15 @@ module _ (tests : ℕ → Sleeper → Bool) (q : List Sleeper) where
   gathered-all : {masks : List ℕ} {n : ℕ} → All Room q → Gathered tests q masks n → processes ≤ n → masks ≡ each (λ (k : ℕ). maskOf (tests k) 0 q)
   gathered-all {masks} {n} f g l =
       each-is (λ (k : ℕ). maskOf (tests k) 0 q) masks (g .long)
-      (λ k h. g .same k h ∙ mask-same (upTo (tests k) n) (tests k) 0 (all-map (λ s r. ap (λ (b : Bool). b && tests k s) (le-leb (s .process) n (omega (arith, r .last)))) f))
+      (λ k h. g .same k h ∙ mask-end (tests k) n 0 f l)
 
 -- ---- the walk: the processes to n are done
 
 pub record Walked (x : Host) (slot : ℕ) (increase zero : List ℕ) (judged n : ℕ) : Type 0 where
   pub within : n ≤ processes
-  pub few : judged ≤ n
   pub increases : Gathered (forIncrease (tableIn x) slot) (queueIn (x .row)) increase n
   pub zeros : Gathered (forZero (tableIn x) slot) (queueIn (x .row)) zero n
-  pub counted : judged ≡ countOf (upTo (mine slot) n) (queueIn (x .row))
+  pub seen : judged ≡ maskOf (upTo (mine slot) n) 0 (queueIn (x .row))
 
 module _ (x : Host) (k : Held x) (slot : ℕ) where
   abbrev q : List Sleeper
@@ -255,18 +222,23 @@ module _ (x : Host) (k : Held x) (slot : ℕ) where
   walked-none =
       record {
         within = omega arith;
-        few = omega arith;
         increases = gathered-none _ q rooms;
         zeros = gathered-none _ q rooms;
-        counted = count-none (upTo (mine slot) 0) (all-map (λ s h. ap (λ (b : Bool). b && mine slot s) (lt-leb (s .process) 0 (omega (arith, h .process)))) rooms);
+        seen = sym (mask-start (mine slot) 0 rooms);
       }
 
-  pub walked-all : {increase zero : List ℕ} {judged n : ℕ} → Walked x slot increase zero judged n → processes ≤ n → record { increase = increase; zero = zero; judged = judged } ≡ waitersOf (tableIn x) slot (queueIn (x .row))
+  -- who was judged, counted
+  pub walked-all : {increase zero : List ℕ} {judged n : ℕ} → Walked x slot increase zero judged n → processes ≤ n → record { increase = increase; zero = zero; judged = ones judged } ≡ waitersOf (tableIn x) slot (queueIn (x .row))
   walked-all {increase} {zero} {judged} {n} w l =
       let a = gathered-all _ q rooms (w .increases) l in
       let b = gathered-all _ q rooms (w .zeros) l in
-      let c = w .counted ∙ count-same (upTo (mine slot) n) (mine slot) (all-map (λ s r. ap (λ (b : Bool). b && mine slot s) (le-leb (s .process) n (omega (arith, r .last)))) rooms) in
+      let v = held-invariant x k in
+      let c : ones judged ≡ judgedAt slot q = ap ones (w .seen ∙ mask-end (mine slot) n 0 rooms l) ∙ ones-mask (mine slot) q (v .fits) (v .distinct) in
       rw (a, b, c)
+
+  -- the next process was not judged yet
+  pub walked-not : {increase zero : List ℕ} {judged n : ℕ} → Walked x slot increase zero judged n → hasBit judged (bitOf (n + 1)) ≡ false
+  walked-not {n = n} w = ap₂ hasBit (w .seen) (bit-next n) ∙ mask-lacks (mine slot) n rooms
 
   module _ (small : slot < slots) {increase zero : List ℕ} {judged n : ℕ} (w : Walked x slot increase zero judged n) (l : n < processes) {b : Bool}
       (e : b ≡ eqb (getD (x .row sleepsAt) (entry (n + 1)) 0) (slot % 256) && not (eqb (getD (x .row sizes) (entry (n + 1)) 0) 0)) where
@@ -277,8 +249,8 @@ module _ (x : Host) (k : Held x) (slot : ℕ) where
         of-mine slot (n + 1) q (all-map (λ s f. f .some) (held-invariant x k .fits))
         ∙ sym (e ∙ rw (whole, by-next (held-row x k) sleepsAt theSlot n refl l, by-next (held-row x k) sizes theSize n refl l))
 
-    counted-next : judged + cond b 1 0 ≡ countOf (upTo (mine slot) (n + 1)) (queueIn (x .row))
-    counted-next = ap₂ (λ (i : ℕ) (c : Bool). i + cond c 1 0) (w .counted) (sym asked) ∙ sym (count-next (mine slot) n q distinct)
+    seen-next : bitOr judged (cond b (2 ^ n) 0) ≡ maskOf (upTo (mine slot) (n + 1)) 0 (queueIn (x .row))
+    seen-next = ap₂ (λ (m : ℕ) (c : Bool). bitOr m (cond c (2 ^ n) 0)) (w .seen) (sym asked) ∙ sym (mask-next (mine slot) n 0 q distinct)
 
     -- it does not
     pub walked-by : b ≡ false → Walked x slot increase zero judged (n + 1)
@@ -286,10 +258,9 @@ module _ (x : Host) (k : Held x) (slot : ℕ) where
     walked-by z =
         record {
           within = omega arith;
-          few = omega (arith, w .few);
           increases = gathered-next _ q distinct (w .increases) refl (λ j. unmoved (getD increase j 0) (of-less (mine slot) _ (n + 1) q (not-increase j) (asked ∙ z)));
           zeros = gathered-next _ q distinct (w .zeros) refl (λ j. unmoved (getD zero j 0) (of-less (mine slot) _ (n + 1) q (not-zero j) (asked ∙ z)));
-          counted = sym (add-zero judged) ∙ ap (λ (c : Bool). judged + cond c 1 0) (sym z) ∙ counted-next;
+          seen = sym (or-zero-r judged) ∙ ap (λ (c : Bool). bitOr judged (cond c (2 ^ n) 0)) (sym z) ∙ seen-next;
         }
       where
         not-increase : (j : ℕ) (s : Sleeper) → mine slot s ≡ false → forIncrease (tableIn x) slot j s ≡ false
@@ -305,8 +276,8 @@ module _ (x : Host) (k : Held x) (slot : ℕ) where
     module _ (z : b ≡ true) {o : Operation} {vs increase′ zero′ : List ℕ}
         (ev : vs ≡ from 0 semaphores (row slot) (x .row values))
         (eo : o ≡ stopFrom (operationsOf (roomIn (x .row) (n + 1))) vs .operation)
-        (ei : increase′ ≡ waitIf (isNegative (o .amount)) increase (o .number % semaphores) (1 * 2 ^ n % 256))
-        (ez : zero′ ≡ waitIf (not (isNegative (o .amount))) zero (o .number % semaphores) (1 * 2 ^ n % 256)) where
+        (ei : increase′ ≡ waitIf (isNegative (o .amount)) increase (o .number % semaphores) (bitOf (n + 1)))
+        (ez : zero′ ≡ waitIf (not (isNegative (o .amount))) zero (o .number % semaphores) (bitOf (n + 1))) where
       seat : Seat (n + 1) (queueIn (x .row))
       seat = seated (mine slot) (n + 1) q (asked ∙ z)
 
@@ -317,19 +288,18 @@ module _ (x : Host) (k : Held x) (slot : ℕ) where
       here = sym (of-seat (mine slot)) ∙ asked ∙ z
 
       -- masks that got the bit where it waits
-      waited : (tests : ℕ → Sleeper → Bool) {masks masks′ : List ℕ} (c : Bool) → Gathered tests (queueIn (x .row)) masks n → masks′ ≡ waitIf c masks (o .number % semaphores) (1 * 2 ^ n % 256)
+      waited : (tests : ℕ → Sleeper → Bool) {masks masks′ : List ℕ} (c : Bool) → Gathered tests (queueIn (x .row)) masks n → masks′ ≡ waitIf c masks (o .number % semaphores) (bitOf (n + 1))
           → ((j : ℕ) → tests j (getD (queueIn (x .row)) (seat .at) noSleeper) ≡ eqb (o .number) j && c) → Gathered tests (queueIn (x .row)) masks′ (n + 1)
       waited tests {masks} {masks′} c g e h =
-          gathered-next tests q distinct g (ap length e ∙ wait-long masks (o .number % semaphores) (1 * 2 ^ n % 256) c)
-          (λ j. ap (λ (m : List ℕ). getD m j 0) e ∙ wait-if masks (o .number) j (1 * 2 ^ n % 256) c (number-small x k slot small seat here ev eo) (g .long)
-          ∙ ap₂ (λ (t : Bool) (bit : ℕ). bitOr (getD masks j 0) (cond t bit 0)) (sym (of-seat (tests j) ∙ h j)) (shifted n l))
+          gathered-next tests q distinct g (ap length e ∙ wait-long masks (o .number % semaphores) (bitOf (n + 1)) c)
+          (λ j. ap (λ (m : List ℕ). getD m j 0) e ∙ wait-if masks (o .number) j (bitOf (n + 1)) c (number-small x k slot small seat here ev eo) (g .long)
+          ∙ ap₂ (λ (t : Bool) (bit : ℕ). bitOr (getD masks j 0) (cond t bit 0)) (sym (of-seat (tests j) ∙ h j)) (bit-next n))
 
-      pub walked-more : Walked x slot increase′ zero′ (judged + 1) (n + 1)
+      pub walked-more : Walked x slot increase′ zero′ (bitOr judged (bitOf (n + 1))) (n + 1)
       walked-more =
           record {
             within = omega arith;
-            few = omega (arith, w .few);
             increases = waited (forIncrease (tableIn x) slot) (isNegative (o .amount)) (w .increases) ei (for-increase x k slot small seat here ev eo);
             zeros = waited (forZero (tableIn x) slot) (not (isNegative (o .amount))) (w .zeros) ez (for-zero x k slot small seat here ev eo);
-            counted = ap (λ (c : Bool). judged + cond c 1 0) (sym z) ∙ counted-next;
+            seen = ap (bitOr judged) (bit-next n) ∙ ap (λ (c : Bool). bitOr judged (cond c (2 ^ n) 0)) (sym z) ∙ seen-next;
           }

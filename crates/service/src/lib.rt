@@ -1,10 +1,11 @@
-// The service: seven events over a host that the caller holds and lends.
+// The service: seven events over a host that the caller holds and lends, and a whole set shown at once.
 //
 // An event is lent the host's row of bytes and its undo adjustments, and a list for the wakings; it tells its code, its
 // value, its looks, and how many it woke. Its promise is one equation with the event's definition in the crate model,
 // refusals included: of the host after it, the list, and what it tells, for every host that is fresh or came back from an
 // event. Create, remove, signal and query wake nobody by a rule; operate, set value and exit go by the engine they are
-// handed. `run` does any of them.
+// handed. `run` does any of them. `query_set` is no event: it shows what a query of each semaphore of a set would, by one walk
+// over its sleepers.
 mod events;
 mod waiting;
 mod whole_set;

@@ -1,15 +1,17 @@
 // Who waits at the semaphores of a set, found in one walk: a sleeper stops at one operation, so a walk tells it for all of them.
 ghost use mathlib.Core.Path.{_≡_};
-ghost use mathlib.Core.Bool.{not, _&&_};
-ghost use Prim.Native.Nat.{_+_, _%_, _<_};
+ghost use mathlib.Core.Bool.{false, not, _&&_};
+ghost use Prim.Native.Nat.{_%_};
+ghost use lib.Bits.{bitOr};
 ghost use lib.Dec.{eqb};
 ghost use lib.ListN.{getD};
-ghost use Rattle.model.specs.Limits.{semaphores, processes};
-ghost use Rattle.model.specs.Operation.{operationsOf, isNegative};
+ghost use Rattle.model.specs.Limits.{semaphores};
+ghost use Rattle.model.specs.Operation.{operationsOf, isNegative, hasBit};
+ghost use Rattle.model.specs.Marks.{bitOf};
 ghost use Rattle.host.specs.Parts.{rowIn, sleepsAt, sizes};
 ghost use Rattle.host.specs.Holding.{Held, hostIn, tableIn, queueIn, entry, roomIn};
 ghost use Rattle.judging.specs.Stop.{stopFrom};
-ghost use Rattle.service_table.specs.Numbered.{IsSlot};
+ghost use Rattle.service_table.specs.Numbered.{IsSlot, IsProcess};
 ghost use Rattle.service.specs.Waiting.{waitersOf, waitIf};
 use host::HOST_BYTES;
 use host::room_of;
@@ -22,13 +24,14 @@ use model::ALL_ADJUSTMENTS;
 use model::Operation;
 use model::PROCESSES;
 use model::SEMAPHORES;
+use service_waking::bit_of;
 
 // At each semaphore of a set the processes that wait there, as masks: for an increase, and for zero; and how many arrays were
 // judged to find them.
 pub struct Waiters {
     pub increase: [u8; SEMAPHORES],
     pub zero: [u8; SEMAPHORES],
-    pub judged: usize,
+    pub judged: u32,
 }
 
 // Does the process sleep at the slot?
@@ -53,25 +56,26 @@ fn wait_at(increase: &mut [u8; SEMAPHORES], zero: &mut [u8; SEMAPHORES], stop: O
     }
 }
 
-// A sleeping process's array is judged on a copy of its set's values, to the operation where it stops. It is counted here, so
-// that none is judged uncounted.
+// The array of a process that was not judged yet is judged on a copy of its set's values, to the operation where it stops. Then
+// it is among those who were judged.
 fn judge_one(
     host: &[u8; HOST_BYTES],
     process: u8,
     values: [u16; SEMAPHORES],
-    judged: &mut usize,
+    judged: &mut u8,
 ) -> Operation
-    requires { ⌜ now judged < processes ⌝ }
+    requires { ⌜ IsProcess process ⌝ }
+    requires { ⌜ hasBit (now judged) (bitOf process) ≡ false ⌝ }
     ensures { λ r. ⌜ r ≡ stopFrom (operationsOf (roomIn (rowIn (now (host .entry))) process)) values .operation ⌝ }
-    ensures { λ _. ⌜ now (judged .exit) ≡ now (judged .entry) + 1 ⌝ }
+    ensures { λ _. ⌜ now (judged .exit) ≡ bitOr (now (judged .entry)) (bitOf process) ⌝ }
 {
     let mut copy = values;
-    *judged = *judged + 1;
+    *judged = *judged | bit_of(process);
     stop_of(&mut copy, room_of(host, process))
 }
 
 // The walk goes by process: a process sleeps at most once, and the masks are of processes. Each sleeper of the set is judged
-// once, and none of another set.
+// once, and none of another set. The adjustments are lent for the premise alone: where a sleeper stops, the values tell.
 pub fn waiting(
     host: &[u8; HOST_BYTES],
     adjustments: &[i16; ALL_ADJUSTMENTS],
@@ -85,17 +89,17 @@ pub fn waiting(
     let wanted = (slot % 256) as u8;
     let mut increase = [0u8; SEMAPHORES];
     let mut zero = [0u8; SEMAPHORES];
-    let mut judged: usize = 0;
+    let mut judged: u8 = 0;
     for n in 0..PROCESSES {
         let process = (n as u8) + 1;
         if sleeps_at(host, process, wanted) {
             let stop = judge_one(host, process, values, &mut judged);
-            wait_at(&mut increase, &mut zero, stop, 1u8 << n);
+            wait_at(&mut increase, &mut zero, stop, bit_of(process));
         }
     }
     Waiters {
         increase: increase,
         zero: zero,
-        judged: judged,
+        judged: u8::count_ones(judged),
     }
 }

@@ -61,13 +61,13 @@ pub fn query_set(
     }
     let slot = slot_of(identifier);
     let set = set_at(host, slot);
-    let w = waiting(host, adjustments, slot);
-    let increase = w.increase;
-    let zero = w.zero;
+    let waiters = waiting(host, adjustments, slot);
+    let increase = waiters.increase;
+    let zero = waiters.zero;
     QueriedSet {
         code: 0,
         count: set.count,
-        judged: w.judged,
+        judged: waiters.judged,
         values: values_of(host, slot),
         lasts: lasts_of(host, slot),
         increase: ones_of(increase),

@@ -5,4 +5,5 @@ pub mod SettleLaws
 pub mod WakingLoops
 pub mod QuickLoops
 pub mod SetLoops
+pub mod ByProcess
 pub mod Marking

@@ -42,15 +42,6 @@ judged-as t s bytes vs us o at c eb ev eu e =
     (e ∙ ap₂ (λ (l : List ℕ) (k : Copies). walkFrom (operationsOf l) k 0) eb (ap₂ (λ (v : List ℕ) (u : List ℤ). record { values = v; adjustments = u }) ev eu)) in
     record { outcome = w .outcome; copies = w .done }
 
--- .. and where it was decided
-pub judged-where : (t : Table) (s : Sleeper) (bytes vs : List ℕ) (us : List ℤ) (o : Outcome) (at : ℕ) (c : Copies)
-    → bytes ≡ s .array → vs ≡ valuesOf t (s .slot) → us ≡ adjustmentsOf t (s .process) (s .slot)
-    → judged o at c ≡ walkFrom (operationsOf bytes) (record { values = vs; adjustments = us }) 0 → at ≡ look t s .position
-unfolding look
-judged-where t s bytes vs us o at c eb ev eu e =
-    walked (copiesOf t s) (operationsOf (s .array)) o at c
-    (e ∙ ap₂ (λ (l : List ℕ) (k : Copies). walkFrom (operationsOf l) k 0) eb (ap₂ (λ (v : List ℕ) (u : List ℤ). record { values = v; adjustments = u }) ev eu)) .position
-
 -- the values of a slot in a lent row
 pub values-in : (h : List ℕ) (a : List ℤ) (slot : ℕ) → slot < slots → from 0 semaphores (row slot) (rowIn h values) ≡ valuesOf (tableIn (hostIn h a)) slot
 values-in h a slot l = values-read (tableIn (hostIn h a)) slot (length-part values h) l

@@ -14,7 +14,7 @@ use Rattle.model.specs.Limits.{semaphores, processes}
 use Rattle.model.specs.State.{Table, Sleeper, noSleeper, row}
 use Rattle.model.specs.Operation.{operationsOf}
 use Rattle.model.specs.Judge.{judged, codeOf, finishes}
-use Rattle.model.specs.Look.{look, after, valuesOf, adjustmentsOf}
+use Rattle.model.specs.Look.{after, valuesOf, adjustmentsOf}
 use Rattle.model.specs.Marks.{named}
 use Rattle.model.specs.Waking.{without, waking, finish}
 use Rattle.model.specs.Invariant.{Good, Fits}
@@ -28,14 +28,14 @@ use Rattle.service_table.specs.Numbered.{Numbered}
 use Rattle.service_table.specs.Written.{tabled, withCopies}
 use Rattle.service_table.proofs.WrittenLaws.{sized-good, copies-applied}
 use Rattle.service_waking.specs.Lent.{Lent, worldIn, lentWith, Ready, JudgedAs, Settleable}
-use Rattle.service_waking.proofs.LookLaws.{values-read, undo-read, judged-as, judged-where}
+use Rattle.service_waking.proofs.LookLaws.{values-read, undo-read, judged-as}
 use Rattle.service_waking.proofs.LentLaws.{queue-aside, ready-row, row-tabled, world-queue, world-table, asleep-all, the-fit, the-numbered, finish-lent}
 
 module _ (x : Host) (at : ℕ) (k : Settleable x at) where
   abbrev sleeper : Sleeper
   sleeper = getD (queueIn (x .row)) at noSleeper
 
-  pub settled-process : getD (x .row order) at 0 ≡ getD (queueIn (x .row)) at noSleeper .process
+  settled-process : getD (x .row order) at 0 ≡ getD (queueIn (x .row)) at noSleeper .process
   settled-process = ap (λ (y : Row). getD (y order) at 0) (k .holding .holds) ∙ order-at (queueIn (x .row)) at (k .there)
 
   -- a number that it keeps by its process, as it was read
@@ -47,7 +47,7 @@ module _ (x : Host) (at : ℕ) (k : Settleable x at) where
       ∙ ap (λ (l : List ℕ). getD l (entry (sleeper .process)) 0) e
       ∙ kept-read (queueIn (x .row)) (k .holding .fits) at (k .there) g
 
-  pub settled-array : arrayIn (x .row) (getD (x .row order) at 0) ≡ getD (queueIn (x .row)) at noSleeper .array
+  settled-array : arrayIn (x .row) (getD (x .row order) at 0) ≡ getD (queueIn (x .row)) at noSleeper .array
   settled-array =
       ap (arrayIn (x .row)) settled-process ∙ ap (λ (y : Row). arrayIn y (sleeper .process)) (k .holding .holds)
       ∙ array-read-back (queueIn (x .row)) (k .holding .fits) at (k .there) (x .row)
@@ -75,9 +75,6 @@ module _ (x : Host) (at : ℕ) (k : Settleable x at) where
 
     pub looked : JudgedAs (tableIn x) (getD (queueIn (x .row)) at noSleeper) o c
     looked = judged-as (tableIn x) sleeper bytes values undo o i c b-is v-is u-is e
-
-    pub looked-where : i ≡ look (tableIn x) (getD (queueIn (x .row)) at noSleeper) .position
-    looked-where = judged-where (tableIn x) sleeper bytes values undo o i c b-is v-is u-is e
 
   -- done: the copies are written
   pub settle-done : (c : Copies) {o : Outcome} {process slot mask : ℕ} {y : Host} → o ≡ Done → length (c .values) ≡ semaphores → length (c .adjustments) ≡ semaphores

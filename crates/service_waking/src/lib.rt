@@ -9,7 +9,7 @@ ghost use lib.ListN.{length, getD};
 ghost use Rattle.model.specs.Limits.{slots};
 ghost use Rattle.model.specs.State.{noSleeper};
 ghost use Rattle.model.specs.Judge.{codeOf};
-ghost use Rattle.model.specs.Look.{after, look as lookAt};
+ghost use Rattle.model.specs.Look.{after};
 ghost use Rattle.model.specs.Waking.{finish as finished};
 ghost use Rattle.model.specs.Marks.{bitOf, markTouched};
 ghost use Rattle.host.specs.Parts.{rowIn};
@@ -49,7 +49,7 @@ pub struct Tally {
 }
 
 // The bit of a process in a mask.
-fn bit_of(process: u8) -> u8
+pub fn bit_of(process: u8) -> u8
     requires { ⌜ IsProcess process ⌝ }
     ensures { λ r. ⌜ r ≡ bitOf process ⌝ }
 {
@@ -68,20 +68,18 @@ fn ending(outcome: Outcome) -> u8
     }
 }
 
-// What a look told: the outcome, the position of the operation that decided, and the copies of the values and of the
-// adjustments as the operations leave them.
+// What a look told: the copies of the values and of the adjustments as the operations leave them, and the outcome. The copies
+// stand first: behind the one byte of an outcome they would be read across words, which takes longer.
 struct Looked {
-    pub outcome: Outcome,
-    pub position: usize,
     pub values: [u16; SEMAPHORES],
     pub undo: [i16; SEMAPHORES],
+    pub outcome: Outcome,
 }
 
 // A look at the sleeper at a position: its array judged on the present state.
 fn look(host: &[u8; HOST_BYTES], adjustments: &[i16; ALL_ADJUSTMENTS], at: usize) -> Looked
     requires { ⌜ Settleable (hostIn (now host) (now adjustments)) at ⌝ }
     ensures { λ r. ⌜ JudgedAs (tableIn (hostIn (now (host .entry)) (now (adjustments .entry)))) (getD (queueIn (rowIn (now (host .entry)))) at noSleeper) (r .outcome) (record { values = r .values; adjustments = r .undo }) ⌝ }
-    ensures { λ r. ⌜ r .position ≡ lookAt (tableIn (hostIn (now (host .entry)) (now (adjustments .entry)))) (getD (queueIn (rowIn (now (host .entry)))) at noSleeper) .position ⌝ }
 {
     let process = process_at(host, at);
     let slot = slot_at(host, process);
@@ -90,10 +88,9 @@ fn look(host: &[u8; HOST_BYTES], adjustments: &[i16; ALL_ADJUSTMENTS], at: usize
     let verdict = judge(&mut values, &mut undo, array_of(host, process));
     let outcome = verdict.outcome;
     Looked {
-        outcome: outcome,
-        position: verdict.position,
         values: values,
         undo: undo,
+        outcome: outcome,
     }
 }
 

@@ -1,7 +1,7 @@
 // The service for programs in C and Rust: the archive libvairolent.a, whose functions have the platform's C convention.
 //
 // Each event is lent the parts of a host and hands them on to the service, where it wakes with the quick engine; what it
-// promises is the service's own promise. Nothing at run time asks for the premise `Held`: a caller in another language keeps
+// promises is the service's own promise. So does a whole set, which is shown and wakes nobody. Nothing at run time asks for the premise `Held`: a caller in another language keeps
 // it, by handing in the parts of `vairolent_fresh`, as the last event left them.
 ghost use mathlib.Core.Path.{_≡_};
 ghost use mathlib.Core.List.{[]};

@@ -37,7 +37,7 @@ pub struct State {
 #[derive(Clone, Debug)]
 pub struct SetState {
     pub states: Vec<State>,
-    pub judged: usize,
+    pub judged: u32,
 }
 
 /// A sleeper that an event finished: its process number and the code it ended with.

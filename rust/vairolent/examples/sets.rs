@@ -85,13 +85,12 @@ fn replay(run: &RunFile, tally: &mut Tally) -> Result<(), String> {
 fn one(host: &Host, ordinary: &second::Host, identifier: i32, tally: &mut Tally) -> Option<()> {
     match (host.query_set(identifier), ordinary.query_set(identifier)) {
         (Ok(seen), Ok(wanted)) => {
-            let states: Vec<State> = seen.semaphores().iter().map(state).collect();
-            let alike = states == wanted.states && seen.judged() == wanted.judged;
+            let states: Option<Vec<State>> = seen.semaphores().iter().map(state).collect();
             tally.alike += 1;
-            tally.judged += seen.judged();
-            let asleep = ordinary.asleep().count_ones() as usize;
-            tally.beside += usize::from(0 < seen.judged() && seen.judged() < asleep);
-            alike.then_some(())
+            tally.judged += seen.judged() as usize;
+            let others = ordinary.asleep().count_ones() - seen.judged();
+            tally.beside += usize::from(seen.judged() > 0 && others > 0);
+            (states? == wanted.states && seen.judged() == wanted.judged).then_some(())
         }
         (Err(Error::Invalid), Err(second::Errno::Einval)) => {
             tally.refused += 1;
@@ -102,14 +101,14 @@ fn one(host: &Host, ordinary: &second::Host, identifier: i32, tally: &mut Tally)
 }
 
 /// A semaphore as ordinary Rust shows it; nothing if a count is not the number of ones in its mask.
-fn state(seen: &Semaphore) -> State {
-    assert_eq!(seen.increase, seen.increase_mask.count_ones());
-    assert_eq!(seen.zero, seen.zero_mask.count_ones());
-    State {
+fn state(seen: &Semaphore) -> Option<State> {
+    let counts = (seen.increase_mask.count_ones(), seen.zero_mask.count_ones());
+    let state = State {
         code: 0,
         value: seen.value.into(),
         last: seen.last,
         for_increase: seen.increase_mask,
         for_zero: seen.zero_mask,
-    }
+    };
+    (counts == (seen.increase, seen.zero)).then_some(state)
 }

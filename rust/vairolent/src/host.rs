@@ -24,8 +24,8 @@ use crate::wakings::Wakings;
 /// whose operations name a semaphore whose value changed or was set, oldest first. One that no longer
 /// sleeps is woken: with its operations applied, and then it is the last process of all that they
 /// name, or with an error of its own. Then those who name a semaphore whose value it changed are to be
-/// judged too, and it begins again with the oldest, until nobody is left to be judged. Each judging is
-/// a look. So nobody sleeps on who could finish.
+/// judged too, and it begins again with the oldest, until nobody is left to be judged. Each such
+/// judging is a look. So nobody sleeps on who could finish.
 ///
 /// # Equality
 ///
@@ -317,7 +317,7 @@ impl Host {
     /// Shows a whole set: each of its semaphores as [`Host::query`] does.
     ///
     /// Each sleeper of the set is judged once for all of them, where a query of each semaphore would
-    /// judge it again and again. It is no event, and nobody is looked at.
+    /// judge it again and again. It is no event, and these judgings are no looks.
     ///
     /// # Errors
     ///

@@ -29,8 +29,8 @@
 //! The events are functions of libvairolent.a, which tools/build-library makes from
 //! `crates/vairolent`. Each is proved to do what the rules say, for every host that is fresh or as
 //! the last event left it, and for all arguments: what it answers, whom it wakes, and every byte of
-//! the host after it. A refused event changes nothing. `docs/RULES.md` leads from each rule to its
-//! definition.
+//! the host after it. A refused event changes nothing. A whole set is shown as its queries would show
+//! it. `docs/RULES.md` leads from each rule to its definition.
 //!
 //! This package is ordinary Rust, and not proved. It keeps a host's bytes private, so that they are
 //! always as the last event left them, lends them to the archive by the C convention, and turns

@@ -28,7 +28,7 @@ pub struct Set {
     /// Zeros from the set's count on.
     semaphores: [Semaphore; SEMAPHORES],
     count: usize,
-    judged: usize,
+    judged: u32,
 }
 
 impl Set {
@@ -54,10 +54,11 @@ impl Set {
         &self.semaphores[..self.count]
     }
 
-    /// How many arrays were judged for it: those of the sleepers of the set, each once.
+    /// How many arrays were judged for it: those of the sleepers of the set, each once. They are no
+    /// looks.
     ///
     /// A sleeper waits at one semaphore alone, so this is also the sum of all wait counts.
-    pub fn judged(&self) -> usize {
+    pub fn judged(&self) -> u32 {
         self.judged
     }
 }

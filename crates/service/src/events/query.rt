@@ -48,9 +48,9 @@ pub fn query(
     let slot = slot_of(identifier);
     let n = number as usize;
     let at = slot * SEMAPHORES + n;
-    let w = waiting(host, adjustments, slot);
-    let increase = w.increase[n];
-    let zero = w.zero[n];
+    let waiters = waiting(host, adjustments, slot);
+    let increase = waiters.increase[n];
+    let zero = waiters.zero[n];
     Queried {
         code: 0,
         value: value_at(host, at),

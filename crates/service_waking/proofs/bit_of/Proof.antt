@@ -2,7 +2,7 @@
 use Prim.Native.Nat.{_-_}
 use native.Mathlib.Omega.{arith}
 use borrow.Author.Needs.{needs}
-use Rattle.service_waking.proofs.Marking.{shifted}
+use Rattle.service_waking.proofs.ByProcess.{shifted}
 use Rattle.service_waking.proofs.bit_of.Statement.{statement}
 use Rattle.service_waking.proofs.bit_of.Tie as tie
 

@@ -1,6 +1,6 @@
 -- `service_waking::look` meets its contract.
 use Rattle.host.specs.Holding.{hostIn}
-use Rattle.service_waking.proofs.SettleLaws.{looked, looked-where}
+use Rattle.service_waking.proofs.SettleLaws.{looked}
 use borrow.Author.Needs.{needs}
 use Rattle.service_waking.proofs.look.Statement.{statement}
 use Rattle.service_waking.proofs.look.Tie as tie
@@ -32,7 +32,7 @@ returns c =
     let v = c .before .before .before .before .before .values-of .ensures in
     let u = c .before .before .before .before .adjustments-of .ensures in
     let b = c .before .array-of .ensures in
-    (looked x (a .args .at) (a .pre) p s b v u _ _ _ (c .judge .ensures), looked-where x (a .args .at) (a .pre) p s b v u _ _ _ (c .judge .ensures))
+    looked x (a .args .at) (a .pre) p s b v u _ _ _ (c .judge .ensures)
 
 pub look-spec : {M : Type 1} → statement M
 look-spec =

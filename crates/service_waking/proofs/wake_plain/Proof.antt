@@ -82,7 +82,7 @@ judged : (c : tie.After-look Inv-loop μ-loop Inv-rounds μ-rounds) → let d = 
 judged c =
     let d = c .before .before .before .before in
     let l = d .before .before .before .before .before .loop in
-    judged-in (lent d) (l .i) (rw (l .inv .0, l .inv .1) at (c .look .ensures .0))
+    judged-in (lent d) (l .i) (rw (l .inv .0, l .inv .1) at (c .look .ensures))
 
 finish-requires : tie.Need-finish-requires Inv-loop μ-loop Inv-rounds μ-rounds
 finish-requires c κs =
@@ -148,7 +148,7 @@ loop-again c =
       l .inv .2,
       l .inv .3,
       ⊎-elim
-          (λ v. rw (v .6) (plain-goes-on _ (lent d) r (o .looks) (l .i) (l .looks) (l .inv .4) (there d) (sym (at-slot d) ∙ v .0 .taken) (judged-in (lent d) (l .i) (rw (l .inv .0, l .inv .1) at (v .3 .ensures .0))) (sym (v .4 .ensures) ∙ v .5 .left)))
+          (λ v. rw (v .6) (plain-goes-on _ (lent d) r (o .looks) (l .i) (l .looks) (l .inv .4) (there d) (sym (at-slot d) ∙ v .0 .taken) (judged-in (lent d) (l .i) (rw (l .inv .0, l .inv .1) at (v .3 .ensures))) (sym (v .4 .ensures) ∙ v .5 .left)))
           (λ v. rw (v .1) (plain-skips _ (lent d) r (o .looks) (l .i) (l .looks) (l .inv .4) (there d) (λ e. v .0 .left (at-slot d ∙ e))))
           (c .if1 .came),
     )

@@ -145,7 +145,7 @@ looked-at t {o} {k} j = judged-in (lent t) (t .loop .i) (subst (λ (y : Lent). J
 
 judged : (c : tie.After-look Inv-loop μ-loop Inv-rounds μ-rounds) → let t = turn (of-slot (of-look c) .before) in
     JudgedAs (worldIn (lent t) .table) (getD (worldIn (lent t) .queue) (t .loop .i) noSleeper) (c .look .result .outcome) (record { values = c .look .result .values; adjustments = c .look .result .undo })
-judged c = let t = turn (of-slot (of-look c) .before) in looked-at t (c .look .ensures .0)
+judged c = let t = turn (of-slot (of-look c) .before) in looked-at t (c .look .ensures)
 
 finish-requires : tie.Need-finish-requires Inv-loop μ-loop Inv-rounds μ-rounds
 finish-requires c κs =
@@ -243,7 +243,7 @@ loop-again c =
       l .inv .2,
       l .inv .3,
       ⊎-elim
-          (λ v. rw (v .9, v .10) (quick-goes-on _ (lent t) r (o .looks) (o .marks) (l .i) (l .looks) (l .marks) (l .inv .4) (there d) (b .bit-of .result) (at-bit b) (v .0 .taken) (sym (read-slot d (v .2 .ensures)) ∙ v .3 .taken) (looked-at t (v .6 .ensures .0)) (sym (v .7 .ensures) ∙ v .8 .left)))
+          (λ v. rw (v .9, v .10) (quick-goes-on _ (lent t) r (o .looks) (o .marks) (l .i) (l .looks) (l .marks) (l .inv .4) (there d) (b .bit-of .result) (at-bit b) (v .0 .taken) (sym (read-slot d (v .2 .ensures)) ∙ v .3 .taken) (looked-at t (v .6 .ensures)) (sym (v .7 .ensures) ∙ v .8 .left)))
           (λ w. ⊎-elim
           (λ v. rw (v .4, v .5) (quick-skips _ (lent t) r (o .looks) (o .marks) (l .i) (l .looks) (l .marks) (l .inv .4) (there d) (λ e. v .3 .left (read-slot d (v .2 .ensures) ∙ e))))
           (λ v. rw (v .1, v .2) (quick-passes _ (lent t) r (o .looks) (o .marks) (l .i) (l .looks) (l .marks) (l .inv .4) (there d) (b .bit-of .result) (at-bit b) (v .0 .left)))

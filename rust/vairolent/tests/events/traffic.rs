@@ -151,7 +151,7 @@ impl Traffic {
         let set = self.host.query_set(identifier)?;
         assert_eq!(set.semaphores()[usize::from(number)], semaphore);
         let waiting = set.semaphores().iter().map(|each| each.increase + each.zero);
-        assert_eq!(waiting.sum::<u32>() as usize, set.judged());
+        assert_eq!(waiting.sum::<u32>(), set.judged());
         Ok(())
     }
 

@@ -1,7 +1,7 @@
 use borrow.Author.Needs.{needs}
 use Prim.Native.Nat.{_-_}
 use native.Mathlib.Omega.{arith}
-use mathlib.Core.Path.{refl, sym, _∙_}
+use mathlib.Core.Path.{refl, sym}
 use Rattle.model.specs.Limits.{semaphores}
 use Rattle.model.specs.State.{row}
 use Rattle.host.specs.Parts.{lasts, rowIn}

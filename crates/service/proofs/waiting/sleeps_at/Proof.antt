@@ -12,7 +12,7 @@ size-at-requires : tie.Need-size-at-requires
 size-at-requires c κs = search needs
 
 returns : tie.Need-returns
-returns c = sleeps-here (c .before .before .slot-byte .ensures) (c .size-at .ensures) (c .before .if1 .taken)
+returns c = sleeps-here (c .before .before .before .args .slot) (c .before .before .slot-byte .ensures) (c .size-at .ensures) (c .before .if1 .taken)
 
 returns-2 : tie.Need-returns-2
 returns-2 c = rw (← c .before .slot-byte .ensures, ne-eqb _ _ (c .if1 .left))

@@ -1,5 +1,4 @@
 -- `service::waiting::wait_at` meets its contract.
-use mathlib.Core.Bool.{not}
 use mathlib.Core.Path.{_≡_, refl, sym, _∙_}
 use mir.Syntax.{w16}
 use mir.Facts.{toZ-ofZ}

@@ -1,12 +1,12 @@
 -- `service::waiting::waiting` meets its contract. The loop's invariant is `Walked`.
-use Prim.Native.Nat.{_-_}
+use Prim.Native.Nat.{_+_, _-_}
 use native.Mathlib.Omega.{arith}
 use mathlib.Core.Logic.{⊎-elim}
-use mathlib.Core.Path.{_≡_, refl, sym, ap, _∙_}
 use borrow.Author.Needs.{needs}
 use Rattle.model.specs.Limits.{processes}
 use Rattle.host.specs.Holding.{Host, hostIn}
-use Rattle.service.proofs.WaitingLaws.{Walked, walked-none, walked-by, walked-more, walked-all}
+use Rattle.service_table.specs.Numbered.{IsProcess}
+use Rattle.service.proofs.WaitingLaws.{Walked, walked-none, walked-by, walked-more, walked-not, walked-all}
 use Rattle.service.proofs.waiting.waiting.Statement.{statement}
 use Rattle.service.proofs.waiting.waiting.Tie as tie
 
@@ -37,14 +37,17 @@ add-process c = search needs
 sleeps-at-requires : tie.Need-sleeps-at-requires Inv-loop μ-loop
 sleeps-at-requires c κs = search needs
 
+one-of : (c : tie.In-loop Inv-loop μ-loop) → IsProcess (c .before .loop .n + 1)
+one-of c = record { least = omega arith; most = omega (arith, c .loop-test .taken) }
+
 judge-one-requires : tie.Need-judge-one-requires Inv-loop μ-loop
-judge-one-requires c κs = let t = c .before .before .before in omega (arith, t .before .loop .inv .few, t .loop-test .taken)
+judge-one-requires c κs =
+    let t = c .before .before .before .before in
+    let s = t .before .before in
+    (one-of (c .before .before .before), walked-not (host s) (s .pre .0) (s .args .slot) (t .loop .inv))
 
-cast-wait-at : tie.Need-cast-wait-at Inv-loop μ-loop
-cast-wait-at c = search needs
-
-shl-wait-at : tie.Need-shl-wait-at Inv-loop μ-loop
-shl-wait-at c = search needs
+bit-of-requires : tie.Need-bit-of-requires Inv-loop μ-loop
+bit-of-requires c κs = one-of (c .before .before .before .before .before .before)
 
 wait-at-requires : tie.Need-wait-at-requires Inv-loop μ-loop
 wait-at-requires c κs = search needs
@@ -62,7 +65,7 @@ loop-again c =
     let l = c .before .before .loop-test .taken in
     let e = c .before .sleeps-at .ensures in
     ⊎-elim
-    (λ v. rw (v .6, v .7, v .8, v .2 .ensures .1) (walked-more (host s) (s .pre .0) (s .args .slot) (s .pre .1) (t .loop .inv) l e (v .0 .taken) (t .before .values-of .ensures) (v .2 .ensures .0) (v .5 .ensures .0) (v .5 .ensures .1)))
+    (λ v. rw (v .7, v .8, v .9, v .2 .ensures .1) (walked-more (host s) (s .pre .0) (s .args .slot) (s .pre .1) (t .loop .inv) l e (v .0 .taken) (t .before .values-of .ensures) (v .2 .ensures .0) (rw (v .5 .ensures) at (v .6 .ensures .0)) (rw (v .5 .ensures) at (v .6 .ensures .1))))
     (λ v. rw (v .1, v .2, v .3) (walked-by (host s) (s .pre .0) (s .args .slot) (s .pre .1) (t .loop .inv) l e (v .0 .left)))
     (c .if1 .came)
 
@@ -82,8 +85,7 @@ waiting-spec =
     add-process
     sleeps-at-requires
     judge-one-requires
-    cast-wait-at
-    shl-wait-at
+    bit-of-requires
     wait-at-requires
     add-n
     loop-less

@@ -1,9 +1,9 @@
 -- `service::whole_set::ones_of` meets its contract. The invariant: the counts to n are those of the masks to n.
 use Prim.Native.Nat.{_-_}
 use borrow.Author.Needs.{needs}
-use mathlib.Core.Path.{_≡_, refl, sym, ap, _∙_}
+use mathlib.Core.Path.{refl}
 use Rattle.model.specs.Limits.{semaphores}
-use Rattle.service.proofs.QueryLaws.{Counting, counted-none, counted-more, counted-all}
+use Rattle.service.proofs.SetShown.{Counting, counted-none, counted-more, counted-all}
 use Rattle.service.proofs.whole_set.ones_of.Statement.{statement}
 use Rattle.service.proofs.whole_set.ones_of.Tie as tie
 

@@ -1,13 +1,12 @@
 -- `service::whole_set::query_set` meets its contract.
 use Prim.Native.Nat.{_<_}
-use native.Mathlib.Omega.{arith}
-use mathlib.Core.Path.{_≡_, refl, sym, _∙_}
+use mathlib.Core.Path.{_≡_, sym, _∙_}
 use mir.Facts.{toZ-ofZ}
 use borrow.Author.Needs.{needs}
 use Rattle.model.specs.Limits.{slots}
 use Rattle.model.specs.Checks.{slotOf, checkSet}
 use Rattle.host.specs.Holding.{Host, hostIn, stateIn}
-use Rattle.service.proofs.QueryLaws.{set-refused, set-small, set-shown}
+use Rattle.service.proofs.SetShown.{set-refused, set-small, set-shown}
 use Rattle.service.proofs.whole_set.query_set.Statement.{statement}
 use Rattle.service.proofs.whole_set.query_set.Tie as tie
 

@@ -12,7 +12,7 @@ use Rattle.host.specs.Holding.{Host, hostIn, stateIn}
 use Rattle.judging.specs.Value.{valueOf}
 use Rattle.service_checks.proofs.FoundSets.{slot-within}
 use Rattle.service_waking.specs.Lent.{treated}
-use Rattle.service_waking.proofs.Marking.{shifted}
+use Rattle.service_waking.proofs.ByProcess.{shifted}
 use Rattle.service.proofs.EventLaws.{refused-after, begun, begun-ready}
 use Rattle.service.proofs.events.set_value.set_value.Proof.Laws.{value-kept, set-number, set-lent, set-ready, set-after}
 use borrow.Author.Needs.{needs}

@@ -10,7 +10,7 @@ use std::time::{Duration, Instant};
 use second::RunFile;
 use vairolent::Host;
 
-const USAGE: &str = "usage: screen ROUNDS FILE...";
+const USAGE: &str = "usage: screen_speed ROUNDS FILE...";
 
 /// How often a round shows the screen.
 const TIMES: u32 = 1_000;
@@ -23,7 +23,7 @@ fn main() -> ExitCode {
             ExitCode::SUCCESS
         }
         Err(words) => {
-            eprintln!("screen: {words}");
+            eprintln!("screen_speed: {words}");
             ExitCode::FAILURE
         }
     }
