@@ -47,7 +47,7 @@ module _ (x : Host) (at : ℕ) (k : Settleable x at) where
       ∙ ap (λ (l : List ℕ). getD l (entry (sleeper .process)) 0) e
       ∙ kept-read (queueIn (x .row)) (k .holding .fits) at (k .there) g
 
-  settled-array : arrayIn (x .row) (getD (x .row order) at 0) ≡ getD (queueIn (x .row)) at noSleeper .array
+  pub settled-array : arrayIn (x .row) (getD (x .row order) at 0) ≡ getD (queueIn (x .row)) at noSleeper .array
   settled-array =
       ap (arrayIn (x .row)) settled-process ∙ ap (λ (y : Row). arrayIn y (sleeper .process)) (k .holding .holds)
       ∙ array-read-back (queueIn (x .row)) (k .holding .fits) at (k .there) (x .row)

@@ -1,7 +1,7 @@
 //! Rules and readings that the situations leave out.
 
 use second::event::{self, exit, operate, query, remove, set_value, signal};
-use second::{NOWAIT, UNDO};
+use second::{Event, Host, Rule, State, NOWAIT, UNDO};
 
 use crate::{check, check_on_a_set, create};
 
@@ -108,6 +108,32 @@ fn wait_counts_are_of_the_operation_that_stops_now() {
         (signal(1), "0 0 0 1=4"),
         (query(0, 1), "0 3 0 0 0"),
     ]);
+}
+
+/// Each sleeper of the set is judged once and waits at one semaphore; that of another set is not.
+#[test]
+fn a_whole_set_at_once() {
+    let mut host = Host::new(Rule::Quick);
+    let bodies = [
+        event::create(3, 255, 255),
+        create(),
+        operate(8, 0, &[(2, 3, 0)]),
+        operate(1, 0, &[(2, -3, 0), (0, -1, 0)]),
+        operate(2, 0, &[(0, -1, 0)]),
+        operate(3, 0, &[(1, 1, 0), (2, 0, 0)]),
+        operate(4, 1, &[(2, -1, 0)]),
+    ];
+    for body in &bodies {
+        host.handle(&Event::decode(body).expect("a good body"));
+    }
+    let seen = host.query_set(0).expect("a live set");
+    let first = State { for_increase: 0b011, ..State::default() };
+    let third = State { value: 3, last: 8, for_zero: 0b100, ..State::default() };
+    assert_eq!(seen.states, [first, State::default(), third]);
+    assert_eq!(seen.judged, 3);
+    assert_eq!(host.query_set(1).map(|seen| seen.judged).ok(), Some(1));
+    assert!(host.query_set(2).is_err());
+    assert!(host.query_set(-4).is_err());
 }
 
 /// Every set is adjusted before the first is treated; slot 0 comes first, and the sleeper that
