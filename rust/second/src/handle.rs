@@ -144,13 +144,10 @@ impl Host {
         for (process, sleeper) in self.queue.of_set(slot) {
             judged += 1;
             if let Outcome::Sleep(stop) = set.outcome(process, &sleeper.array) {
-                let operation = sleeper.array.operations()[stop];
-                let state = &mut states[usize::from(operation.number)];
-                let waiters = if operation.amount < 0 {
-                    &mut state.for_increase
-                } else {
-                    &mut state.for_zero
-                };
+                let stopped = sleeper.array.operations()[stop];
+                let state = &mut states[usize::from(stopped.number)];
+                let waiters =
+                    if stopped.amount < 0 { &mut state.for_increase } else { &mut state.for_zero };
                 *waiters |= process.bit();
             }
         }
