@@ -3,13 +3,11 @@ use Prim.Native.Nat.{ℕ, zero, suc, _+_, _≤_, _<_}
 use native.Mathlib.Nat.{add-zero}
 use native.Mathlib.Omega.{arith}
 use mathlib.Core.Path.{_≡_, refl, sym, ap, _∙_}
-use mathlib.Core.Logic.{⊎-elim}
 use mathlib.Core.Bool.{Bool}
-use mathlib.Core.List.{List, _∷_}
+use mathlib.Core.List.{List, _∷_, map}
 use lib.Count.{ones}
 use lib.IntN.{ℤ, pos}
-use lib.ListN.{length, getD, set, length-set}
-use lib.Seq.{getD-set-same, getD-set-other}
+use lib.ListN.{getD, set, List·getD-map}
 use Rattle.model.specs.declared.QueriedSet.{QueriedSet}
 use Rattle.model.specs.declared.Set.{Set}
 use Rattle.model.specs.Limits.{slots, semaphores}
@@ -25,37 +23,11 @@ use Rattle.model.proofs.WholeSetLaws.{each-at, each-long, each-is}
 use Rattle.host.specs.Parts.{values, lasts}
 use Rattle.host.specs.Rows.{from}
 use Rattle.host.specs.Holding.{Host, setAt, queueIn, tableIn, stateIn, Held}
-use Rattle.host.proofs.PartLaws.{less-or-not}
+use Rattle.host.proofs.RowLaws.{Reading, read-more, read-all}
 use Rattle.host.proofs.SetRows.{set-in}
 use Rattle.service.specs.declared.waiting.Waiters.{Waiters}
 use Rattle.service.specs.Waiting.{waitersOf}
 use Rattle.service.proofs.EventLaws.{held-invariant}
-
--- the loop: the first n masks are counted
-pub record Counting (masks counts : List ℕ) (n : ℕ) : Type 0 where
-  pub within : n ≤ semaphores
-  pub long : length counts ≡ semaphores
-  pub same : (j : ℕ) → j < n → getD counts j 0 ≡ ones (getD masks j 0)
-
-module _ {masks counts : List ℕ} where
-  pub counted-none : length counts ≡ semaphores → Counting masks counts 0
-  counted-none e = record { within = omega arith; long = e; same = λ j l. absurd (omega arith) }
-
-  pub counted-more : {n x : ℕ} → Counting masks counts n → n < semaphores → x ≡ ones (getD masks n 0) → Counting masks (set counts n x) (n + 1)
-  counted-more {n} {x} w l e =
-      record {
-        within = omega arith;
-        long = length-set counts n x ∙ w .long;
-        same = λ j m. ⊎-elim
-            (λ (h : j < n). getD-set-other counts n j x 0 (λ z. omega arith) ∙ w .same j h)
-            (λ (h : n ≤ j). let z : j ≡ n = omega arith in rw z (getD-set-same counts n x 0 (omega (arith, w .long)) ∙ e))
-            (less-or-not j n);
-      }
-
-  pub counted-all : {n : ℕ} → Counting masks counts n → semaphores ≤ n → counts ≡ each (λ (j : ℕ). ones (getD masks j 0))
-  counted-all {n} w l = each-is _ counts (w .long) (λ j h. w .same j (omega arith))
-
--- ---- what is shown
 
 -- elements from a place on, one for each semaphore
 from-each : (l : List ℕ) (at k n : ℕ) → from 0 n (at + k) l ≡ eachFrom (λ (j : ℕ). getD l (at + j) 0) k n
@@ -70,6 +42,25 @@ from-all l at = ap (λ (m : ℕ). from 0 semaphores m l) (sym (add-zero at)) ∙
 
 each-same : (f g : ℕ → ℕ) → ((n : ℕ) → n < semaphores → f n ≡ g n) → each f ≡ each g
 each-same f g h = each-is g (each f) (each-long f 0 semaphores) (λ n l. each-at f n l ∙ h n l)
+
+-- ---- the counts of masks, one after the other
+
+module _ (masks : List ℕ) where
+  count-at : (n : ℕ) → getD (map ones masks) (0 + n) 0 ≡ ones (getD masks n 0)
+  unfolding ones
+  count-at n = let e : 0 + n ≡ n = omega arith in rw e (List·getD-map ones masks n 0)
+
+  -- the loop: the first n are counted
+  abbrev pub Counting : List ℕ → ℕ → Type 0
+  Counting counts n = Reading 0 semaphores 0 (map ones masks) counts n
+
+  pub counted-more : {counts : List ℕ} {n : ℕ} → Counting counts n → n < semaphores → Counting (set counts n (ones (getD masks n 0))) (n + 1)
+  counted-more {n = n} w l = read-more _ w l (sym (count-at n))
+
+  pub counted-all : {counts : List ℕ} {n : ℕ} → Counting counts n → semaphores ≤ n → counts ≡ each (λ (j : ℕ). ones (getD masks j 0))
+  counted-all w l = read-all w l ∙ from-all (map ones masks) 0 ∙ each-same _ _ (λ n h. count-at n)
+
+-- ---- what is shown
 
 refuses-set : (code : ℕ) (shown : QueriedSet) → (code ≡ 0 → ⊥) → setRefused code ≡ setChecked code shown
 refuses-set zero shown n = absurd (n refl)

@@ -78,13 +78,13 @@ module _ (test : Sleeper → Bool) where
       go false = refl
 
   -- nobody passes
-  pub mask-none : (m : ℕ) {q : List Sleeper} → All (λ (s : Sleeper). test s ≡ false) q → maskOf test m q ≡ m
+  mask-none : (m : ℕ) {q : List Sleeper} → All (λ (s : Sleeper). test s ≡ false) q → maskOf test m q ≡ m
   unfolding maskOf
   mask-none m none = refl
   mask-none m (also h t) = rw h (mask-none m t)
 
   -- another test that says the same of everybody
-  pub mask-same : (other : Sleeper → Bool) (m : ℕ) {q : List Sleeper} → All (λ (s : Sleeper). test s ≡ other s) q → maskOf test m q ≡ maskOf other m q
+  mask-same : (other : Sleeper → Bool) (m : ℕ) {q : List Sleeper} → All (λ (s : Sleeper). test s ≡ other s) q → maskOf test m q ≡ maskOf other m q
   unfolding maskOf
   mask-same other m none = refl
   mask-same other m (also {x = s} h t) = rw h (mask-same other (cond (other s) (bitOr m (bitOf (s .process))) m) t)

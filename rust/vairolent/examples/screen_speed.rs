@@ -2,54 +2,35 @@
 //! a query of each semaphore, and by whole sets in ordinary Rust, in turn, on the hosts that run
 //! files leave. What comes out is a table in Markdown.
 
+mod measured;
 mod through;
 
 use std::process::ExitCode;
 use std::time::{Duration, Instant};
 
+use measured::Table;
 use second::RunFile;
 use vairolent::Host;
-
-const USAGE: &str = "usage: screen_speed ROUNDS FILE...";
 
 /// How often a round shows the screen.
 const TIMES: u32 = 1_000;
 
+const TABLE: Table = Table {
+    program: "screen_speed",
+    columns: &["Semaphores", "Asleep", "whole sets, ns", "queries, ns", "ordinary Rust, ns"],
+    cells,
+};
+
 fn main() -> ExitCode {
-    let arguments: Vec<String> = std::env::args().skip(1).collect();
-    match table(&arguments) {
-        Ok(text) => {
-            print!("{text}");
-            ExitCode::SUCCESS
-        }
-        Err(words) => {
-            eprintln!("screen_speed: {words}");
-            ExitCode::FAILURE
-        }
-    }
+    TABLE.write()
 }
 
-fn table(arguments: &[String]) -> Result<String, String> {
-    let (rounds, paths) = match arguments {
-        [rounds, paths @ ..] if !paths.is_empty() => (rounds.parse::<u32>().ok(), paths),
-        _ => return Err(USAGE.to_string()),
-    };
-    let rounds = rounds.filter(|&rounds| rounds > 0).ok_or(USAGE)?;
-    let mut text =
-        "| File | Semaphores | Asleep | whole sets, ns | queries, ns | ordinary Rust, ns |\n"
-            .to_string();
-    text += "|---|---:|---:|---:|---:|---:|\n";
-    for path in paths {
-        let bytes = std::fs::read(path).map_err(|error| format!("{path}: {error}"))?;
-        let run = RunFile::read(&bytes).map_err(|bad| format!("{path}: bad {}", bad as i32))?;
-        let screen = Screen::after(&run);
-        let [whole, each, ordinary] = screen.best(rounds).ok_or(format!("{path}: not alike"))?;
-        let name = path.rsplit('/').next().unwrap_or(path).trim_end_matches(".run");
-        let semaphores: usize = screen.sets.iter().map(|&(_, count)| usize::from(count)).sum();
-        let asleep = screen.ordinary.asleep().count_ones();
-        text += &format!("| {name} | {semaphores} | {asleep} | {whole} | {each} | {ordinary} |\n");
-    }
-    Ok(text)
+fn cells(run: &RunFile, rounds: u32) -> Option<Vec<String>> {
+    let screen = Screen::after(run);
+    let semaphores: usize = screen.sets.iter().map(|&(_, count)| usize::from(count)).sum();
+    let asleep = screen.ordinary.asleep().count_ones();
+    let times = screen.best(rounds)?.map(|time| time.to_string());
+    Some([[semaphores.to_string(), asleep.to_string()].as_slice(), &times].concat())
 }
 
 /// A host in both, and its live sets, each with its number of semaphores.

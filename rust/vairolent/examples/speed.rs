@@ -1,51 +1,31 @@
 //! Measures the events of run files through this package beside the same events in ordinary Rust,
 //! in turn, with nothing read or written between them. What comes out is a table in Markdown.
 
+mod measured;
 mod through;
 
 use std::process::ExitCode;
 use std::time::{Duration, Instant};
 
+use measured::Table;
 use second::{Event, RunFile};
 use through::Told;
 use vairolent::{Host, Operation};
 
-const USAGE: &str = "usage: speed ROUNDS FILE...";
+const TABLE: Table =
+    Table { program: "speed", columns: &["library, ns", "ordinary Rust, ns", "Ratio"], cells };
 
 fn main() -> ExitCode {
-    let arguments: Vec<String> = std::env::args().skip(1).collect();
-    match table(&arguments) {
-        Ok(text) => {
-            print!("{text}");
-            ExitCode::SUCCESS
-        }
-        Err(words) => {
-            eprintln!("speed: {words}");
-            ExitCode::FAILURE
-        }
-    }
+    TABLE.write()
 }
 
-fn table(arguments: &[String]) -> Result<String, String> {
-    let (rounds, paths) = match arguments {
-        [rounds, paths @ ..] if !paths.is_empty() => (rounds.parse::<u32>().ok(), paths),
-        _ => return Err(USAGE.to_string()),
-    };
-    let rounds = rounds.filter(|&rounds| rounds > 0).ok_or(USAGE)?;
-    let mut text = "| File | library, ns | ordinary Rust, ns | Ratio |\n".to_string();
-    text += "|---|---:|---:|---:|\n";
-    for path in paths {
-        let bytes = std::fs::read(path).map_err(|error| format!("{path}: {error}"))?;
-        let run = RunFile::read(&bytes).map_err(|bad| format!("{path}: bad {}", bad as i32))?;
-        let events: Vec<Handed> = run.events().map(Handed::from).collect();
-        let [library, ordinary] = best(&events, rounds).ok_or(format!("{path}: not alike"))?;
-        let each = |time: Duration| time.as_nanos() as f64 / events.len().max(1) as f64;
-        let (library, ordinary) = (each(library), each(ordinary));
-        let name = path.rsplit('/').next().unwrap_or(path).trim_end_matches(".run");
-        let ratio = library / ordinary;
-        text += &format!("| {name} | {library:.0} | {ordinary:.0} | {ratio:.2} |\n");
-    }
-    Ok(text)
+fn cells(run: &RunFile, rounds: u32) -> Option<Vec<String>> {
+    let events: Vec<Handed> = run.events().map(Handed::from).collect();
+    let [library, ordinary] = best(&events, rounds)?;
+    let each = |time: Duration| time.as_nanos() as f64 / events.len().max(1) as f64;
+    let (library, ordinary) = (each(library), each(ordinary));
+    let ratio = library / ordinary;
+    Some(vec![format!("{library:.0}"), format!("{ordinary:.0}"), format!("{ratio:.2}")])
 }
 
 /// An event, and its operations as this package takes them.

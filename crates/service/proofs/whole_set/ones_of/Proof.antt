@@ -3,7 +3,8 @@ use Prim.Native.Nat.{_-_}
 use borrow.Author.Needs.{needs}
 use mathlib.Core.Path.{refl}
 use Rattle.model.specs.Limits.{semaphores}
-use Rattle.service.proofs.SetShown.{Counting, counted-none, counted-more, counted-all}
+use Rattle.host.proofs.RowLaws.{read-none}
+use Rattle.service.proofs.SetShown.{Counting, counted-more, counted-all}
 use Rattle.service.proofs.whole_set.ones_of.Statement.{statement}
 use Rattle.service.proofs.whole_set.ones_of.Tie as tie
 
@@ -14,7 +15,7 @@ abbrev μ-loop : tie.MeasureT-loop
 μ-loop masks counts₀ n₀ counts n = semaphores - n
 
 loop-holds : tie.Need-loop-holds Inv-loop μ-loop
-loop-holds c = counted-none refl
+loop-holds c = read-none 0 semaphores 0 _ _ refl
 
 array-read-mask : tie.Need-array-read-mask Inv-loop μ-loop
 array-read-mask c = search needs
@@ -32,10 +33,10 @@ loop-less : tie.Need-loop-less Inv-loop μ-loop
 loop-less c = search needs
 
 loop-again : tie.Need-loop-again Inv-loop μ-loop
-loop-again c = counted-more (c .before .loop .inv) (c .loop-test .taken) refl
+loop-again c = counted-more (c .before .before .args .t1) (c .before .loop .inv) (c .loop-test .taken)
 
 returns : tie.Need-returns Inv-loop μ-loop
-returns c = counted-all (c .before .loop .inv) (c .loop-test .left)
+returns c = counted-all (c .before .before .args .t1) (c .before .loop .inv) (c .loop-test .left)
 
 pub ones-of-spec : {M : Type 1} → statement M
 ones-of-spec =
