@@ -10,6 +10,7 @@ use lib.Dec.{eqb}
 use lib.ListN.{length, getD}
 use lib.IntN.{ℤ}
 use borrow.Author.Tests.{eqb-true, eqb-false, not-true}
+use Rattle.model.specs.declared.Position.the-variants.{Nowhere}
 use Rattle.model.specs.declared.Set.{Set}
 use Rattle.model.specs.Limits.{processes}
 use Rattle.model.specs.State.{Sleeper, State, noSleeper}
@@ -97,7 +98,7 @@ module _ (test : Sleeper → Bool) where
   keep-ended code (s ∷ q) = go (test s) (keep-ended code q)
     where
       go : (b : Bool) → length (keep (λ s. not (test s)) q) + length (endedWith code test q) ≡ length q
-          → length (cond (not b) (s ∷ keep (λ s. not (test s)) q) (keep (λ s. not (test s)) q)) + length (cond b (waking (s .process) code ∷ endedWith code test q) (endedWith code test q)) ≡ suc (length q)
+          → length (cond (not b) (s ∷ keep (λ s. not (test s)) q) (keep (λ s. not (test s)) q)) + length (cond b (waking (s .process) code Nowhere ∷ endedWith code test q) (endedWith code test q)) ≡ suc (length q)
       go true r = omega arith
       go false r = omega arith
 

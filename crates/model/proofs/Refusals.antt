@@ -1,22 +1,24 @@
--- A refused event changes nothing and answers its code alone: for every event, state and engine, without a premise (specs/Runs.antt).
+-- A refused event changes nothing and answers its code, with the operation that judging names: for every event, state and engine, without a premise (specs/Runs.antt).
 use Prim.Native.Nat.{ℕ, zero, suc}
 use native.Mathlib.Omega.{arith}
 use mathlib.Core.Path.{_≡_, refl, ap}
 use lib.IntN.{pos}
 use Rattle.model.specs.declared.Outcome.{Outcome}
 use Rattle.model.specs.declared.Outcome.the-variants.{Done, Sleep, Again, Range}
+use Rattle.model.specs.declared.Position.{Position}
+use Rattle.model.specs.declared.Position.the-variants.{Nowhere}
 use Rattle.model.specs.declared.Copies.{Copies}
 use Rattle.model.specs.declared.Engine.{Engine}
 use Rattle.model.specs.State.{State, Sleeper}
 use Rattle.model.specs.Judge.{codeOf}
 use Rattle.model.specs.Waking.{Waker, waker}
 use Rattle.model.specs.Checks.{checkCreate, checkOperate, checkNumber, checkSetValue, checkSet, checkProcess}
-use Rattle.model.specs.Events.{Event, create, operate, setValue, remove, signal, exit, query, Result, refused, checked, operated, event, doCreate, doOperate, doSetValue, doRemove, doSignal, doExit, doQuery}
+use Rattle.model.specs.Events.{Event, create, operate, setValue, remove, signal, exit, query, Result, refusedAt, checked, operated, event, doCreate, doOperate, doSetValue, doRemove, doSignal, doExit, doQuery}
 use Rattle.model.specs.Runs.{RefusedWhole, Refuses}
 
--- the code of a refusal tells all of it
-same-code : (s : State) (a b : ℕ) → pos a ≡ pos b → refused s a ≡ refused s b
-same-code s a b e = let n : a ≡ b = cc in ap (refused s) n
+-- the code of a refusal, and the operation that it names, tell all of it
+same-code : (s : State) (a b : ℕ) (at : Position) → pos a ≡ pos b → refusedAt s a at ≡ refusedAt s b at
+same-code s a b at e = let n : a ≡ b = cc in ap (λ (c : ℕ). refusedAt s c at) n
 
 -- an answer of 0 is no refusal
 done : {s : State} (r : Result) → r .answer .code ≡ pos 0 → Refuses s r
@@ -25,20 +27,20 @@ done r z code e = let n : _≡_ {A = ℕ} 0 (suc code) = cc in absurd (omega ari
 -- an event is refused by a check, or as what it does
 by-check : (code : ℕ) (s : State) (r : Result) → Refuses s r → Refuses s (checked code s r)
 by-check zero s r h = h
-by-check (suc n) s r h = λ code e. same-code s (suc n) (suc code) e
+by-check (suc n) s r h = λ code e. same-code s (suc n) (suc code) Nowhere e
 
-operated-refuses : (wake : Waker) (s : State) (c : Sleeper) (x : Outcome) (copies : Copies) → Refuses s (operated wake s c x copies)
+operated-refuses : (wake : Waker) (s : State) (c : Sleeper) (x : Outcome) (at : Position) (copies : Copies) → Refuses s (operated wake s c x at copies)
 unfolding operated codeOf
-operated-refuses wake s c Done copies = done _ refl
-operated-refuses wake s c Sleep copies = λ code e. let n : _≡_ {A = ℕ} 0 1 = cc in absurd (omega arith)
-operated-refuses wake s c Again copies = λ code e. same-code s 11 (suc code) e
-operated-refuses wake s c Range copies = λ code e. same-code s 34 (suc code) e
+operated-refuses wake s c Done at copies = done _ refl
+operated-refuses wake s c Sleep at copies = λ code e. let n : _≡_ {A = ℕ} 0 1 = cc in absurd (omega arith)
+operated-refuses wake s c Again at copies = λ code e. same-code s 11 (suc code) at e
+operated-refuses wake s c Range at copies = λ code e. same-code s 34 (suc code) at e
 
 -- Demand 1.
 pub refused-whole : (engine : Engine) (s : State) (e : Event) → RefusedWhole engine s e
 unfolding event doCreate doOperate doSetValue doRemove doSignal doExit doQuery
 refused-whole engine s (create count read alter) = by-check (checkCreate s count) s _ (done _ refl)
-refused-whole engine s (operate p i bytes) = by-check (checkOperate s p i bytes) s _ (operated-refuses (waker engine) s _ _ _)
+refused-whole engine s (operate p i bytes) = by-check (checkOperate s p i bytes) s _ (operated-refuses (waker engine) s _ _ _ _)
 refused-whole engine s (setValue i n v) = by-check (checkSetValue s i n v) s _ (done _ refl)
 refused-whole engine s (remove i) = by-check (checkSet s i) s _ (done _ refl)
 refused-whole engine s (signal p) = by-check (checkProcess p) s _ (done _ refl)

@@ -2,7 +2,7 @@
 use mathlib.Core.Path.{refl}
 use Rattle.model.specs.declared.Engine.the-variants.{Plain, Quick}
 use Rattle.model.specs.Operation.{signed16, operationsFrom, isZero, isNegative}
-use Rattle.model.specs.Judge.{nextValue, nextAdjustment, step, goOn, judgeFrom, codeOf, finishes}
+use Rattle.model.specs.Judge.{nextValue, nextAdjustment, step, goOn, judgeFrom, codeOf, decidedAt, finishes}
 use Rattle.model.specs.Look.{valuesOf, adjustmentsOf, look, lastsAfter, applied, after}
 use Rattle.model.specs.Marks.{unmark, marked, namedBy, differing, mine, maskOf}
 use Rattle.model.specs.Waking.{without, finish, plainRound, quickRound, plain, quick, waker}
@@ -11,14 +11,14 @@ use Rattle.model.specs.Checks.{identifierOf, slotOf, namesSet, noProcess
 use Rattle.model.specs.State.{clearRows, cleared}
 use Rattle.model.specs.Events.{clearNumber, assigned, cut, undoAll, exited, keep, endedWith, doCreate, operated, doOperate, doSetValue, doRemove, treat, treatFrom, touchedFrom, doExit, seenAt, doQuery, event}
 use Rattle.model.specs.Runs.{run, All, none, also}
-use Rattle.model.specs.Situations.{Situation, Shows, Holds, situation1, situation2, situation3, situation4, situation5, situation6, situation7, situation8, situation9, situation10, situation11, situation12, situation12b, situation13, situation14, situation15, table}
+use Rattle.model.specs.Situations.{Situation, Shows, Holds, situation1, situation2, situation3, situation4, situation5, situation6, situation7, situation8, situation9, situation10, situation11, situation12, situation12b, situation13, situation14, situation15, situation16, situation17, table}
 
 both : (r : Situation) → Shows Plain r → Shows Quick r → Holds r
 both r p q Plain = p
 both r p q Quick = q
 
 pub situations : All Holds table
-unfolding run event doCreate operated doOperate doSetValue doRemove treat treatFrom touchedFrom doExit seenAt doQuery stop stopsAt forIncrease forZero countOf identifierOf slotOf namesSet noProcess asleep numberTooHigh permitted freeFrom checkCreate checkOperate checkNumber inRange checkSetValue checkSet checkProcess clearRows cleared clearNumber assigned cut undoAll exited keep endedWith waker plain quick plainRound quickRound finish without look lastsAfter applied after valuesOf adjustmentsOf judgeFrom goOn step nextValue nextAdjustment codeOf finishes operationsFrom signed16 isZero isNegative unmark marked namedBy differing mine maskOf
+unfolding run event doCreate operated doOperate doSetValue doRemove treat treatFrom touchedFrom doExit seenAt doQuery stop stopsAt forIncrease forZero countOf identifierOf slotOf namesSet noProcess asleep numberTooHigh permitted freeFrom checkCreate checkOperate checkNumber inRange checkSetValue checkSet checkProcess clearRows cleared clearNumber assigned cut undoAll exited keep endedWith waker plain quick plainRound quickRound finish without look lastsAfter applied after valuesOf adjustmentsOf judgeFrom goOn step nextValue nextAdjustment codeOf decidedAt finishes operationsFrom signed16 isZero isNegative unmark marked namedBy differing mine maskOf
 situations =
     also (both situation1 refl refl)
     (also (both situation2 refl refl)
@@ -36,4 +36,6 @@ situations =
     (also (both situation13 refl refl)
     (also (both situation14 refl refl)
     (also (both situation15 refl refl)
-    none)))))))))))))))
+    (also (both situation16 refl refl)
+    (also (both situation17 refl refl)
+    none)))))))))))))))))

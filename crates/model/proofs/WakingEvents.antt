@@ -12,13 +12,14 @@ use borrow.Author.Tests.{ltb-false, eqb-false, not-true}
 use Rattle.model.specs.declared.Operation.{Operation}
 use Rattle.model.specs.declared.Outcome.{Outcome}
 use Rattle.model.specs.declared.Outcome.the-variants.{Done, Sleep, Again, Range}
+use Rattle.model.specs.declared.Position.{Position}
 use Rattle.model.specs.declared.Copies.{Copies}
 use Rattle.model.specs.declared.Judged.{Judged}
 use Rattle.model.specs.declared.Engine.the-variants.{Plain, Quick}
 use Rattle.model.specs.Limits.{slots, semaphores, processes}
 use Rattle.model.specs.State.{Table, Sleeper, State}
 use Rattle.model.specs.Operation.{operationsOf, hasBit}
-use Rattle.model.specs.Judge.{finishes}
+use Rattle.model.specs.Judge.{positionOf, finishes}
 use Rattle.model.specs.Look.{look, applied, valuesOf}
 use Rattle.model.specs.Marks.{mine, named, differing}
 use Rattle.model.specs.Waking.{World, Ended, couldFinish, waker}
@@ -72,10 +73,10 @@ treated s slot touched t i g clean aside ready =
 
 -- ---- operate
 
-operated-agrees : (s : State) (c : Sleeper) (x : Outcome) (copies : Copies) → Invariant s → Fits (s .sets) c → All (Other c) (s .queue) → Fine copies
-    → Clean (s .sets) (applied (s .table) c copies) → look (s .table) c .outcome ≡ x → Agrees (operated (waker Quick) s c x copies) (operated (waker Plain) s c x copies)
+operated-agrees : (s : State) (c : Sleeper) (x : Outcome) (at : Position) (copies : Copies) → Invariant s → Fits (s .sets) c → All (Other c) (s .queue) → Fine copies
+    → Clean (s .sets) (applied (s .table) c copies) → look (s .table) c .outcome ≡ x → Agrees (operated (waker Quick) s c x at copies) (operated (waker Plain) s c x at copies)
 unfolding operated finishes
-operated-agrees s c Done copies i f others k clean e =
+operated-agrees s c Done at copies i f others k clean e =
     treated s (c .slot) (differing 0 0 (valuesOf (s .table) (c .slot)) (valuesOf (applied (s .table) c copies) (c .slot))) t i g clean
     (all-zip3 aside (i .fits) others (i .stuck)) (all-zip3 ready (i .fits) others (i .stuck))
   where
@@ -95,7 +96,7 @@ operated-agrees s c Done copies i f others k clean e =
         → hasBit (named q) (differing 0 0 (valuesOf (s .table) (c .slot)) (valuesOf t (c .slot))) ≡ false → couldFinish t q ≡ false
     ready q fq o st e un =
         unconcerned-stuck (i .counts) (s .table) t q (i .good) g fq (rw (slot-mine (c .slot) q e) un) (applied-undo (s .table) c q (i .good) f fq copies k o) st
-operated-agrees s c Sleep copies i f others k clean e =
+operated-agrees s c Sleep at copies i f others k clean e =
     quiet _ refl
     (record {
       sets = i .sets;
@@ -107,8 +108,8 @@ operated-agrees s c Sleep copies i f others k clean e =
       distinct = distinct-snoc (s .queue) c (i .distinct) others;
       stuck = all-append (s .queue) (c ∷ []) (i .stuck) (also (ap finishes e) none);
     })
-operated-agrees s c Again copies i f others k clean e = quiet _ refl i
-operated-agrees s c Range copies i f others k clean e = quiet _ refl i
+operated-agrees s c Again at copies i f others k clean e = quiet _ refl i
+operated-agrees s c Range at copies i f others k clean e = quiet _ refl i
 
 pub operate-agrees : (s : State) (p : ℕ) (i : ℤ) (bytes : List ℕ) → Invariant s → Agrees (doOperate (waker Quick) s p i bytes) (doOperate (waker Plain) s p i bytes)
 unfolding doOperate
@@ -120,9 +121,9 @@ operate-agrees s p j bytes i = checked-agrees (checkOperate s p j bytes) s _ _ i
     judged : Judged
     judged = look (s .table) c
 
-    does : Operable s p j bytes → Agrees (operated (waker Quick) s c (judged .outcome) (judged .copies)) (operated (waker Plain) s c (judged .outcome) (judged .copies))
+    does : Operable s p j bytes → Agrees (operated (waker Quick) s c (judged .outcome) (positionOf judged) (judged .copies)) (operated (waker Plain) s c (judged .outcome) (positionOf judged) (judged .copies))
     does o =
-        operated-agrees s c (judged .outcome) (judged .copies) i (o .fits) (o .others) (look-fine (s .table) c (i .good) (o .fits))
+        operated-agrees s c (judged .outcome) (positionOf judged) (judged .copies) i (o .fits) (o .others) (look-fine (s .table) c (i .good) (o .fits))
         (looked-clean (i .counts) (s .table) c (i .good) (o .fits) (i .clean)) refl
 
 -- ---- set value

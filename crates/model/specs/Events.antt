@@ -10,13 +10,15 @@ use lib.Signed.{ltZ}
 use Rattle.model.specs.declared.Set.{Set}
 use Rattle.model.specs.declared.Outcome.{Outcome}
 use Rattle.model.specs.declared.Outcome.the-variants.{Done, Sleep, Again, Range}
+use Rattle.model.specs.declared.Position.{Position}
+use Rattle.model.specs.declared.Position.the-variants.{Nowhere}
 use Rattle.model.specs.declared.Copies.{Copies}
 use Rattle.model.specs.declared.Waking.{Waking}
 use Rattle.model.specs.declared.Event as declared
 use Rattle.model.specs.declared.Event.the-variants.{Create, Operate, SetValue, Remove, Signal, Exit, Query}
 use Rattle.model.specs.Limits.{slots, processes, valueMax, allSemaphores}
 use Rattle.model.specs.State.{Table, withValues, withAdjustments, Sleeper, State, row, undoRow, cleared, freeSet, noSet}
-use Rattle.model.specs.Judge.{codeOf}
+use Rattle.model.specs.Judge.{codeOf, positionOf}
 use Rattle.model.specs.Look.{look, applied, valuesOf}
 use Rattle.model.specs.Marks.{mine, differing, maskOf}
 use Rattle.model.specs.Waking.{World, Ended, Waker, waking}
@@ -67,9 +69,10 @@ pub record Seen : Type 0 where
   pub increaseMask : ℕ
   pub zeroMask : ℕ
 
--- "an answer is all that an event returns beside state, looks and wakings"
+-- "an answer is all that an event returns beside state, looks and wakings"; the position is that of the operation that decided
 pub record Answer : Type 0 where
   pub code : ℤ
+  pub position : Position
   pub value : ℕ
   pub seen : Seen
 
@@ -83,12 +86,20 @@ abbrev pub nothingSeen : Seen
 nothingSeen = record { last = 0; increase = 0; zero = 0; increaseMask = 0; zeroMask = 0 }
 
 -- "Every other event has value 0."
-abbrev pub answer : ℤ → Answer
-answer code = record { code = code; value = 0; seen = nothingSeen }
+abbrev pub answerAt : ℤ → Position → Answer
+answerAt code position = record { code = code; position = position; value = 0; seen = nothingSeen }
 
--- "A refused event returns its code, value 0, no looks and no wakings; the state is unchanged."
+-- "A completed array and the checks before judging have no position."
+abbrev pub answer : ℤ → Answer
+answer code = answerAt code Nowhere
+
+-- "A refused event returns its code, value 0, no looks and no wakings; the state is unchanged": one that is refused by judging
+-- names the operation that decided
+abbrev pub refusedAt : State → ℕ → Position → Result
+refusedAt s code position = record { answer = answerAt (pos code) position; state = s; looks = 0; wakings = [] }
+
 abbrev pub refused : State → ℕ → Result
-refused s code = record { answer = answer (pos code); state = s; looks = 0; wakings = [] }
+refused s code = refusedAt s code Nowhere
 
 -- done, with a new state, no looks, and these wakings
 abbrev pub doneWith : State → List Waking → Result
@@ -136,7 +147,7 @@ keep test (s ∷ q) = cond (test s) (s ∷ keep test q) (keep test q)
 -- the sleepers that pass the test, ended with a code, oldest first
 unfoldable pub endedWith : ℤ → (Sleeper → Bool) → List Sleeper → List Waking
 endedWith code test [] = []
-endedWith code test (s ∷ q) = cond (test s) (waking (s .process) code ∷ endedWith code test q) (endedWith code test q)
+endedWith code test (s ∷ q) = cond (test s) (waking (s .process) code Nowhere ∷ endedWith code test q) (endedWith code test q)
 
 -- is it a call of this process?
 abbrev pub isOf : ℕ → Sleeper → Bool
@@ -172,7 +183,7 @@ doCreate s count read alter =
     let slot = freeSlot (s .sets) in
     checked (checkCreate s count) s
     (record {
-      answer = record { code = pos 0; value = identifierOf (s .sets) slot; seen = nothingSeen };
+      answer = record { code = pos 0; position = Nowhere; value = identifierOf (s .sets) slot; seen = nothingSeen };
       state = record {
         sets = set (s .sets) slot (record { generation = getD (s .sets) slot noSet .generation; count = count; read = read; alter = alter });
         table = cleared (s .table) slot;
@@ -184,14 +195,14 @@ doCreate s count read alter =
 
 -- an array that passed the checks, as it was judged: the copy becomes the state and the set is treated; "Sleeping changes
 -- nothing but the queue"; or it is refused
-unfoldable pub operated : Waker → State → Sleeper → Outcome → Copies → Result
-operated wake s c Done copies =
+unfoldable pub operated : Waker → State → Sleeper → Outcome → Position → Copies → Result
+operated wake s c Done position copies =
     let t = applied (s .table) c copies in
     wokenAs s (wake (c .slot) (differing 0 0 (valuesOf (s .table) (c .slot)) (valuesOf t (c .slot))) (world t (s .queue)) 0)
-operated wake s c Sleep copies =
-    record { answer = answer (codeOf Sleep); state = record { sets = s .sets; table = s .table; queue = s .queue ++ c ∷ [] }; looks = 0; wakings = [] }
-operated wake s c Again copies = refused s 11
-operated wake s c Range copies = refused s 34
+operated wake s c Sleep position copies =
+    record { answer = answerAt (codeOf Sleep) position; state = record { sets = s .sets; table = s .table; queue = s .queue ++ c ∷ [] }; looks = 0; wakings = [] }
+operated wake s c Again position copies = refusedAt s 11 position
+operated wake s c Range position copies = refusedAt s 34 position
 
 -- the call of a process: an array at the set that an identifier names
 abbrev pub call : ℕ → ℤ → List ℕ → Sleeper
@@ -199,8 +210,9 @@ call p i bytes = record { process = p; slot = slotOf i; array = bytes }
 
 unfoldable pub doOperate : Waker → State → ℕ → ℤ → List ℕ → Result
 doOperate wake s p i bytes =
-    checked (checkOperate s p i bytes) s
-    (operated wake s (call p i bytes) (look (s .table) (call p i bytes) .outcome) (look (s .table) (call p i bytes) .copies))
+    let c = call p i bytes in
+    let j = look (s .table) c in
+    checked (checkOperate s p i bytes) s (operated wake s c (j .outcome) (positionOf j) (j .copies))
 
 -- touched is "in set value always the named one"; no other value differs
 unfoldable pub doSetValue : Waker → State → ℤ → ℕ → ℤ → Result
@@ -265,7 +277,12 @@ seenAt s slot n =
 unfoldable pub doQuery : State → ℤ → ℕ → Result
 doQuery s i n =
     checked (checkNumber s i n) s
-    (record { answer = record { code = pos 0; value = getD (s .table .values) (row (slotOf i) + n) 0; seen = seenAt s (slotOf i) n }; state = s; looks = 0; wakings = [] })
+    (record {
+      answer = record { code = pos 0; position = Nowhere; value = getD (s .table .values) (row (slotOf i) + n) 0; seen = seenAt s (slotOf i) n };
+      state = s;
+      looks = 0;
+      wakings = [];
+    })
 
 unfoldable pub event : Waker → State → Event → Result
 event wake s (create count read alter) = doCreate s count read alter

@@ -13,6 +13,8 @@ use Rattle.model.specs.declared.Undo.{Undo}
 use Rattle.model.specs.declared.Undo.the-variants as undo
 use Rattle.model.specs.declared.Outcome.{Outcome}
 use Rattle.model.specs.declared.Outcome.the-variants.{Done, Sleep, Again, Range}
+use Rattle.model.specs.declared.Position.{Position}
+use Rattle.model.specs.declared.Position.the-variants.{Nowhere, At}
 use Rattle.model.specs.declared.Copies.{Copies}
 use Rattle.model.specs.declared.Judged.{Judged}
 use Rattle.model.specs.Limits.{valueMax}
@@ -81,6 +83,18 @@ codeOf Done = pos 0
 codeOf Sleep = negsuc 0
 codeOf Again = pos 11
 codeOf Range = pos 34
+
+-- "Judging is to name the position, from 0, of the operation that decided, whenever the outcome is 11, 34 or sleep"; "a completed
+-- array" has none
+unfoldable pub decidedAt : Outcome → ℕ → Position
+decidedAt Done i = Nowhere
+decidedAt Sleep i = At i
+decidedAt Again i = At i
+decidedAt Range i = At i
+
+-- the operation that judging names
+abbrev pub positionOf : Judged → Position
+positionOf j = decidedAt (j .outcome) (j .position)
 
 -- "If the outcome is not sleep, the sleeper is finished"
 unfoldable pub finishes : Outcome → Bool

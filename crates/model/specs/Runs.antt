@@ -8,7 +8,7 @@ use Rattle.model.specs.declared.Engine.{Engine}
 use Rattle.model.specs.declared.Engine.the-variants.{Plain, Quick}
 use Rattle.model.specs.State.{State, Sleeper, freshState}
 use Rattle.model.specs.Waking.{waker, couldFinish}
-use Rattle.model.specs.Events.{Event, Result, refused, event}
+use Rattle.model.specs.Events.{Event, Result, refusedAt, event}
 
 -- the results of a list of events, in order, and the state after it
 pub record Run : Type 0 where
@@ -51,9 +51,9 @@ abbrev pub Stuck : State → Sleeper → Type 0
 Stuck s q = couldFinish (s .table) q ≡ false
 
 -- "A refused event (one that is 11 or 34 by judging too) returns its code, value 0 (in a query every other number 0 too), no
--- looks and no wakings; the state is unchanged": a result whose code is above 0 is that refusal
+-- looks and no wakings; the state is unchanged": a result whose code is above 0 is that refusal, with the operation that it names
 abbrev pub Refuses : State → Result → Type 0
-Refuses s r = (code : ℕ) → r .answer .code ≡ pos (suc code) → r ≡ refused s (suc code)
+Refuses s r = (code : ℕ) → r .answer .code ≡ pos (suc code) → r ≡ refusedAt s (suc code) (r .answer .position)
 
 -- Demand 1, for one event of an engine in any state.
 abbrev pub RefusedWhole : Engine → State → Event → Type 0

@@ -7,10 +7,11 @@ use lib.ListN.{replicate}
 use lib.IntN.{ℤ, pos, negsuc}
 use Rattle.model.specs.declared.Engine.{Engine}
 use Rattle.model.specs.declared.Engine.the-variants.{Plain, Quick}
+use Rattle.model.specs.declared.Position.the-variants.{Nowhere, At}
 use Rattle.model.specs.declared.Waking.{Waking}
 use Rattle.model.specs.State.{State, freeSet, freshTable, freshState}
 use Rattle.model.specs.Waking.{waking}
-use Rattle.model.specs.Events.{Event, create, operate, setValue, remove, exit, query, Answer, answer, nothingSeen, Result}
+use Rattle.model.specs.Events.{Event, create, operate, setValue, remove, exit, query, Answer, answerAt, answer, nothingSeen, Result}
 use Rattle.model.specs.Runs.{run}
 
 -- ---- operations
@@ -84,16 +85,27 @@ answers e a = record { event = e; answer = a; plain = 0; quick = 0; wakings = []
 abbrev gives : Event → ℤ → Step
 gives e code = answers e (answer code)
 
+-- a code by judging, and the position of the operation that decided
+abbrev stops : Event → ℤ → ℕ → Step
+stops e code position = answers e (answerAt code (At position))
+
 -- with code 0: a value; looks and wakings
 abbrev tells : Event → ℕ → Step
-tells e value = answers e (record { code = pos 0; value = value; seen = nothingSeen })
+tells e value = answers e (record { code = pos 0; position = Nowhere; value = value; seen = nothingSeen })
 
 abbrev wakes : Event → ℕ → ℕ → List Waking → Step
 wakes e plain quick wakings = record { event = e; answer = answer (pos 0); plain = plain; quick = quick; wakings = wakings }
 
 -- a query that shows a value and a last process, and that nobody waits
 abbrev sees : Event → ℕ → ℕ → Step
-sees e value last = answers e (record { code = pos 0; value = value; seen = record { last = last; increase = 0; zero = 0; increaseMask = 0; zeroMask = 0 } })
+sees e value last = answers e (record { code = pos 0; position = Nowhere; value = value; seen = record { last = last; increase = 0; zero = 0; increaseMask = 0; zeroMask = 0 } })
+
+-- a waking with a code alone; one with 11 or 34, and the position of the operation that decided
+abbrev woken : ℕ → ℤ → Waking
+woken process code = waking process code Nowhere
+
+abbrev ended : ℕ → ℤ → ℕ → Waking
+ended process code position = waking process code (At position)
 
 abbrev done : ℤ
 done = pos 0
@@ -115,7 +127,7 @@ situation1 =
     fresh 1
     (gives (operate 1 set0 (op 0 (pos 1) none ++ op 0 (minus 1) none)) done
     ∷ sees (query set0 0) 0 1
-    ∷ gives (operate 1 set0 (op 0 (minus 1) none ++ op 0 (pos 1) none)) asleep
+    ∷ stops (operate 1 set0 (op 0 (minus 1) none ++ op 0 (pos 1) none)) asleep 0
     ∷ [])
 
 -- 2: 32,766 and +1 gives 32,767; once more: 34.
@@ -125,7 +137,7 @@ situation2 =
     (gives (setValue set0 0 (pos 32766)) done
     ∷ gives (operate 1 set0 (op 0 (pos 1) none)) done
     ∷ sees (query set0 0) 32767 1
-    ∷ gives (operate 2 set0 (op 0 (pos 1) none)) (pos 34)
+    ∷ stops (operate 2 set0 (op 0 (pos 1) none)) (pos 34) 0
     ∷ sees (query set0 0) 32767 1
     ∷ [])
 
@@ -134,8 +146,8 @@ abbrev pub situation3 : Situation
 situation3 =
     fresh 1
     (gives (setValue set0 0 (pos 32767)) done
-    ∷ gives (operate 1 set0 (op 0 (minus 32768) noWait)) (pos 11)
-    ∷ gives (operate 1 set0 (op 0 (minus 32768) none)) asleep
+    ∷ stops (operate 1 set0 (op 0 (minus 32768) noWait)) (pos 11) 0
+    ∷ stops (operate 1 set0 (op 0 (minus 32768) none)) asleep 0
     ∷ [])
 
 -- 4: process 1 does +3 with undo on 0, process 2 does -2, 1 exits: value 0.
@@ -174,8 +186,8 @@ situation6 =
 abbrev pub situation7 : Situation
 situation7 =
     fresh 2
-    (gives (operate 1 set0 (op 0 (pos 5) none ++ op 1 (minus 1) none)) asleep
-    ∷ wakes (setValue set0 0 (pos 32765)) 1 1 (waking 1 (pos 34) ∷ [])
+    (stops (operate 1 set0 (op 0 (pos 5) none ++ op 1 (minus 1) none)) asleep 1
+    ∷ wakes (setValue set0 0 (pos 32765)) 1 1 (ended 1 (pos 34) 0 ∷ [])
     ∷ sees (query set0 0) 32765 0
     ∷ [])
 
@@ -183,8 +195,8 @@ situation7 =
 abbrev pub situation8 : Situation
 situation8 =
     fresh 2
-    (gives (operate 1 set0 (op 0 (pos 0) noWait ++ op 1 (minus 1) none)) asleep
-    ∷ wakes (setValue set0 0 (pos 1)) 1 1 (waking 1 (pos 11) ∷ [])
+    (stops (operate 1 set0 (op 0 (pos 0) noWait ++ op 1 (minus 1) none)) asleep 1
+    ∷ wakes (setValue set0 0 (pos 1)) 1 1 (ended 1 (pos 11) 0 ∷ [])
     ∷ sees (query set0 0) 1 0
     ∷ [])
 
@@ -194,27 +206,27 @@ situation9 =
     fresh 1
     (gives (operate 1 set0 (op 0 (pos 32767) undo)) done
     ∷ gives (operate 2 set0 (op 0 (minus 1) none)) done
-    ∷ gives (operate 1 set0 (op 0 (pos 1) undo)) (pos 34)
+    ∷ stops (operate 1 set0 (op 0 (pos 1) undo)) (pos 34) 0
     ∷ [])
 
 -- 10: an older sleeper wants 2, a newer 1, value becomes 1: the newer is woken; 3 looks under each rule.
 abbrev pub situation10 : Situation
 situation10 =
     fresh 1
-    (gives (operate 1 set0 (op 0 (minus 2) none)) asleep
-    ∷ gives (operate 2 set0 (op 0 (minus 1) none)) asleep
-    ∷ wakes (operate 3 set0 (op 0 (pos 1) none)) 3 3 (waking 2 (pos 0) ∷ [])
+    (stops (operate 1 set0 (op 0 (minus 2) none)) asleep 0
+    ∷ stops (operate 2 set0 (op 0 (minus 1) none)) asleep 0
+    ∷ wakes (operate 3 set0 (op 0 (pos 1) none)) 3 3 (woken 2 (pos 0) ∷ [])
     ∷ [])
 
 -- 11: eight sleepers, number j (process j + 1) on (j,-1),(j-1,+1), number 0 on (0,-1) alone, in order 0 to 7. Set value of 7 to 1
 -- wakes all, 7 first: 36 plain looks, 8 quick.
 abbrev link : ℕ → Step
-link j = gives (operate (j + 1) set0 (op j (minus 1) none ++ op (j - 1) (pos 1) none)) asleep
+link j = stops (operate (j + 1) set0 (op j (minus 1) none ++ op (j - 1) (pos 1) none)) asleep 0
 
 abbrev pub situation11 : Situation
 situation11 =
     fresh 8
-    (gives (operate 1 set0 (op 0 (minus 1) none)) asleep
+    (stops (operate 1 set0 (op 0 (minus 1) none)) asleep 0
     ∷ link 1
     ∷ link 2
     ∷ link 3
@@ -222,16 +234,16 @@ situation11 =
     ∷ link 5
     ∷ link 6
     ∷ link 7
-    ∷ wakes (setValue set0 7 (pos 1)) 36 8 (map (λ (p : ℕ). waking p (pos 0)) (8 ∷ 7 ∷ 6 ∷ 5 ∷ 4 ∷ 3 ∷ 2 ∷ 1 ∷ []))
+    ∷ wakes (setValue set0 7 (pos 1)) 36 8 (map (λ (p : ℕ). woken p (pos 0)) (8 ∷ 7 ∷ 6 ∷ 5 ∷ 4 ∷ 3 ∷ 2 ∷ 1 ∷ []))
     ∷ [])
 
 -- 12: slot 0 with identifier 0, sleepers 3 and 5, removed: 3=43 5=43; the next create gives 4; identifier 0 is 22.
 abbrev pub situation12 : Situation
 situation12 =
     fresh 1
-    (gives (operate 3 set0 (op 0 (minus 1) none)) asleep
-    ∷ gives (operate 5 set0 (op 0 (minus 1) none)) asleep
-    ∷ wakes (remove set0) 0 0 (waking 3 (pos 43) ∷ waking 5 (pos 43) ∷ [])
+    (stops (operate 3 set0 (op 0 (minus 1) none)) asleep 0
+    ∷ stops (operate 5 set0 (op 0 (minus 1) none)) asleep 0
+    ∷ wakes (remove set0) 0 0 (woken 3 (pos 43) ∷ woken 5 (pos 43) ∷ [])
     ∷ tells (create 1 255 255) 4
     ∷ gives (query set0 0) (pos 22)
     ∷ [])
@@ -275,12 +287,43 @@ abbrev pub situation15 : Situation
 situation15 =
     fresh 2
     (gives (setValue set0 0 (pos 1)) done
-    ∷ gives (operate 2 set0 (op 0 (pos 0) none ++ op 1 (pos 0) none)) asleep
-    ∷ answers (query set0 0) (record { code = done; value = 1; seen = record { last = 0; increase = 0; zero = 1; increaseMask = 0; zeroMask = 2 } })
+    ∷ stops (operate 2 set0 (op 0 (pos 0) none ++ op 1 (pos 0) none)) asleep 0
+    ∷ answers (query set0 0) (record { code = done; position = Nowhere; value = 1; seen = record { last = 0; increase = 0; zero = 1; increaseMask = 0; zeroMask = 2 } })
     ∷ sees (query set0 1) 0 0
-    ∷ wakes (operate 3 set0 (op 0 (minus 1) none)) 1 1 (waking 2 (pos 0) ∷ [])
+    ∷ wakes (operate 3 set0 (op 0 (minus 1) none)) 1 1 (woken 2 (pos 0) ∷ [])
     ∷ sees (query set0 0) 0 2
     ∷ sees (query set0 1) 0 2
+    ∷ [])
+
+-- 16: the operation that decided is named by its position. (0,+1),(1,-1) on values 0: asleep at 1; with IPC_NOWAIT on the second:
+-- 11 at 1; on the first alone: asleep at 1. Value 32,767 at 0: both are woken with 34 at 0. 34 by the value at 1, and 34 by the
+-- adjustment at 1. What a check refuses, and the 34 of set value, name none.
+abbrev pub situation16 : Situation
+situation16 =
+    fresh 2
+    (stops (operate 1 set0 (op 0 (pos 1) none ++ op 1 (minus 1) none)) asleep 1
+    ∷ stops (operate 2 set0 (op 0 (pos 1) none ++ op 1 (minus 1) noWait)) (pos 11) 1
+    ∷ stops (operate 2 set0 (op 0 (pos 1) noWait ++ op 1 (minus 1) none)) asleep 1
+    ∷ wakes (operate 3 set0 (op 0 (pos 32767) undo)) 2 2 (ended 1 (pos 34) 0 ∷ ended 2 (pos 34) 0 ∷ [])
+    ∷ stops (operate 4 set0 (op 1 (pos 0) none ++ op 0 (pos 1) none)) (pos 34) 1
+    ∷ gives (operate 4 set0 (op 0 (minus 2) none)) done
+    ∷ stops (operate 3 set0 (op 1 (pos 1) undo ++ op 0 (pos 1) undo)) (pos 34) 1
+    ∷ gives (operate 3 set0 (op 0 (pos 1) none ++ op 2 (pos 1) none)) (pos 27)
+    ∷ gives (setValue set0 0 (pos 40000)) (pos 34)
+    ∷ [])
+
+-- 17: a waking names the operation where that look decided. Asleep at 0 on (0,-1),(1,0,IPC_NOWAIT) with values 0 and 1: when 0
+-- comes to 1 it is woken with 11 at 1. Asleep at 0 on (0,-1),(1,+32,767): when 0 comes to 1 it is woken with 34 at 1.
+abbrev pub situation17 : Situation
+situation17 =
+    fresh 2
+    (gives (setValue set0 1 (pos 1)) done
+    ∷ stops (operate 1 set0 (op 0 (minus 1) none ++ op 1 (pos 0) noWait)) asleep 0
+    ∷ wakes (setValue set0 0 (pos 1)) 1 1 (ended 1 (pos 11) 1 ∷ [])
+    ∷ gives (setValue set0 0 (pos 0)) done
+    ∷ stops (operate 1 set0 (op 0 (minus 1) none ++ op 1 (pos 32767) none)) asleep 0
+    ∷ wakes (operate 2 set0 (op 0 (pos 1) none)) 1 1 (ended 1 (pos 34) 1 ∷ [])
+    ∷ sees (query set0 1) 1 0
     ∷ [])
 
 abbrev pub table : List Situation
@@ -301,4 +344,6 @@ table =
     ∷ situation13
     ∷ situation14
     ∷ situation15
+    ∷ situation16
+    ∷ situation17
     ∷ []

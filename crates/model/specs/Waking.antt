@@ -6,9 +6,10 @@ use lib.ListN.{length, getD}
 use lib.IntN.{ℤ}
 use Rattle.model.specs.declared.Engine.{Engine}
 use Rattle.model.specs.declared.Engine.the-variants.{Plain, Quick}
+use Rattle.model.specs.declared.Position.{Position}
 use Rattle.model.specs.declared.Waking.{Waking}
 use Rattle.model.specs.State.{Table, Sleeper, noSleeper}
-use Rattle.model.specs.Judge.{codeOf, finishes}
+use Rattle.model.specs.Judge.{codeOf, positionOf, finishes}
 use Rattle.model.specs.Look.{look, after, valuesOf}
 use Rattle.model.specs.Marks.{mine, marked, unmark, markTouched, differing}
 
@@ -38,10 +39,10 @@ without [] i = []
 without (x ∷ xs) zero = xs
 without (x ∷ xs) (suc i) = x ∷ without xs i
 
-abbrev pub waking : ℕ → ℤ → Waking
-waking process code = record { process = process; code = code }
+abbrev pub waking : ℕ → ℤ → Position → Waking
+waking process code position = record { process = process; code = code; position = position }
 
--- "applied with code 0, or ended with 11 or 34", and taken out
+-- "applied with code 0, or ended with 11 or 34", and taken out; "each waking with 11 or 34" names the operation that decided
 unfoldable pub finish : World → ℕ → World
 finish w i =
     let s = getD (w .queue) i noSleeper in
@@ -49,7 +50,7 @@ finish w i =
     record {
       table = after (w .table) s (j .outcome) (j .copies);
       queue = without (w .queue) i;
-      wakings = w .wakings ++ waking (s .process) (codeOf (j .outcome)) ∷ [];
+      wakings = w .wakings ++ waking (s .process) (codeOf (j .outcome)) (positionOf j) ∷ [];
     }
 
 -- a round after one sleeper: is it looked at, would it finish, its position, the looks before, the marks before and

@@ -27,8 +27,9 @@ pub const ALL_ADJUSTMENTS: usize = PROCESSES * ALL_SEMAPHORES;
 
 pub const ALL_BYTES: usize = PROCESSES * ARRAY_BYTES;
 
-// A waking in a list that an event is lent: a process and its code, one byte each; and the bytes of the whole list.
-pub const ONE_WAKING: usize = 2;
+// A waking in a list that an event is lent: a process, its code, whether an operation decided, and its position, one byte
+// each; and the bytes of the whole list.
+pub const ONE_WAKING: usize = 4;
 
 pub const WAKING_BYTES: usize = ONE_WAKING * PROCESSES;
 
@@ -68,14 +69,20 @@ pub enum Outcome {
     Range,
 }
 
+// The operation that decided how an array was judged, by its position from 0; or that none did.
+pub enum Position {
+    Nowhere,
+    At(u8),
+}
+
 // The copy that an array is judged on: a set's values, and the caller's adjustments for them.
 pub struct Copies {
     pub values: [u16; SEMAPHORES],
     pub adjustments: [i16; SEMAPHORES],
 }
 
-// The outcome, the position of the operation that decided, and the copies: as the array leaves them if it is done, else
-// as they were.
+// The outcome, the position of the operation that decided (the number of operations, if none did), and the copies: as the
+// array leaves them if it is done, else as they were.
 pub struct Judged {
     pub outcome: Outcome,
     pub position: usize,
@@ -88,10 +95,11 @@ pub enum Engine {
     Quick,
 }
 
-// A sleeper that was ended, and its code: of one width, so that a list of wakings is copied without gaps.
+// A sleeper that was ended, its code, and the operation that decided.
 pub struct Waking {
     pub process: u32,
     pub code: i32,
+    pub position: Position,
 }
 
 // An event that is handed in. The bytes of an operate's operations stand beside it.
@@ -125,14 +133,14 @@ pub enum Event {
     },
 }
 
-// What an event tells, beside the wakings in the list that it was lent: its code, its value, its looks, and how many it
-// woke.
-#[repr(C)]
+// What an event tells, beside the wakings in the list that it was lent: its code, its value, its looks, how many it woke, and
+// the operation that decided.
 pub struct Told {
     pub code: i32,
     pub value: u32,
     pub looks: usize,
     pub woken: usize,
+    pub position: Position,
 }
 
 // What a query answers; its looks are 0 like those of every event that wakes nobody. The host stays as it is.

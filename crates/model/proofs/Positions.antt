@@ -1,0 +1,181 @@
+-- The operation that judging names: it is the first that does not go through, and the only one of which that is true
+-- (specs/Positions.antt).
+use Prim.Native.Nat.{ℕ, zero, suc, _+_, _≤_, _<_}
+use native.Mathlib.Nat.{not-suc-le-zero, le-of-suc-le-suc, add-zero}
+use native.Mathlib.Omega.{arith}
+use mathlib.Core.Path.{_≡_, refl, sym, ap, _∙_}
+use mathlib.Core.Logic.{_≢_}
+use mathlib.Core.Bool.{Bool, true, false}
+use mathlib.Core.List.{List, [], _∷_}
+use lib.Dec.{ltb}
+use lib.ListN.{length, take}
+use borrow.Author.Tests.{ltb-true, ltb-false}
+use Rattle.model.specs.declared.Operation.{Operation}
+use Rattle.model.specs.declared.Outcome.{Outcome}
+use Rattle.model.specs.declared.Outcome.the-variants.{Done, Sleep, Again, Range}
+use Rattle.model.specs.declared.Position.{Position}
+use Rattle.model.specs.declared.Position.the-variants.{Nowhere, At}
+use Rattle.model.specs.declared.Copies.{Copies}
+use Rattle.model.specs.declared.Judged.{Judged}
+use Rattle.model.specs.declared.Engine.{Engine}
+use Rattle.model.specs.State.{State, Table, Sleeper}
+use Rattle.model.specs.Operation.{operationsOf}
+use Rattle.model.specs.Judge.{judged, step, goOn, judgeFrom, judge, decidedAt, positionOf}
+use Rattle.model.specs.Look.{copiesOf, look}
+use Rattle.model.specs.Waking.{Waker, waker}
+use Rattle.model.specs.Checks.{checkCreate, checkOperate, checkNumber, checkSetValue, checkSet, checkProcess}
+use Rattle.model.specs.Events.{Event, create, operate, setValue, remove, signal, exit, query, Result, checked, operated, call, event, doCreate, doOperate, doSetValue, doRemove, doSignal, doExit, doQuery}
+use Rattle.model.specs.Positions.{Decides, Named}
+
+-- ---- how far an array goes
+
+-- the operations from the i-th on: so many go through, each beginning of them alone is done, and the next one decides
+record Goes (start : Copies) (os : List Operation) (c : Copies) (i : ℕ) : Type 0 where
+  through : ℕ
+  position : judgeFrom start os c i .position ≡ i + through
+  most : through ≤ length os
+  before : (k : ℕ) → k ≤ through → judgeFrom start (take k os) c i .outcome ≡ Done
+  decides : judgeFrom start (take (suc through) os) c i .outcome ≡ judgeFrom start os c i .outcome
+  there : judgeFrom start os c i .outcome ≢ Done → through < length os
+
+no-operation : (start c : Copies) (i : ℕ) → Goes start [] c i
+unfolding judgeFrom
+no-operation start c i =
+    record { through = 0; position = sym (add-zero i); most = omega arith; before = none; decides = refl; there = λ n. absurd (n refl) }
+  where
+    none : (k : ℕ) → k ≤ 0 → judgeFrom start (take k []) c i .outcome ≡ Done
+    none zero h = refl
+    none (suc k) h = absurd (not-suc-le-zero h)
+
+module _ (start : Copies) (o : Operation) (os : List Operation) (c : Copies) (i : ℕ) where
+  -- the first of them goes through
+  on : step c o i .outcome ≡ Done → Goes start os (step c o i .copies) (i + 1) → Goes start (o ∷ os) c i
+  unfolding goOn judgeFrom
+  on e more =
+      record {
+        through = suc (more .through);
+        position = rw e (more .position ∙ omega arith);
+        most = omega (arith, more .most);
+        before = all;
+        decides = rw e (more .decides);
+        there = λ n. omega (arith, more .there (rw e at n));
+      }
+    where
+      all : (k : ℕ) → k ≤ suc (more .through) → judgeFrom start (take k (o ∷ os)) c i .outcome ≡ Done
+      all zero h = refl
+      all (suc k) h = rw e (more .before k (le-of-suc-le-suc h))
+
+  -- it decides
+  here : (x : Outcome) → ((more : Judged) → goOn start i (step c o i .outcome) more ≡ judged x i start) → Goes start (o ∷ os) c i
+  unfolding goOn judgeFrom
+  here x f =
+      record {
+        through = 0;
+        position = rw f (sym (add-zero i));
+        most = omega arith;
+        before = none;
+        decides = rw (f (judgeFrom start [] (step c o i .copies) (i + 1)), f (judgeFrom start os (step c o i .copies) (i + 1)));
+        there = λ n. omega arith;
+      }
+    where
+      none : (k : ℕ) → k ≤ 0 → judgeFrom start (take k (o ∷ os)) c i .outcome ≡ Done
+      none zero h = refl
+      none (suc k) h = absurd (not-suc-le-zero h)
+
+  either-way : Goes start os (step c o i .copies) (i + 1) → Goes start (o ∷ os) c i
+  unfolding goOn
+  either-way more = by (step c o i .outcome) refl
+    where
+      by : (x : Outcome) → step c o i .outcome ≡ x → Goes start (o ∷ os) c i
+      by Done e = on e more
+      by Sleep e = here Sleep (λ m. rw e)
+      by Again e = here Again (λ m. rw e)
+      by Range e = here Range (λ m. rw e)
+
+goes : (start : Copies) (os : List Operation) (c : Copies) (i : ℕ) → Goes start os c i
+goes start [] c i = no-operation start c i
+goes start (o ∷ os) c i = either-way start o os c i (goes start os (step c o i .copies) (i + 1))
+
+-- the position is that of an operation, or their number
+pub position-within : (start : Copies) (os : List Operation) → judge start os .position ≤ length os
+position-within start os = let g : Goes start os start 0 = goes start os start 0 in omega (arith, g .position, g .most)
+
+-- ---- the operation that is named
+
+-- judging that names an operation is not done, and it is at the position where judging ended
+named-at : (x : Outcome) (n i : ℕ) → decidedAt x n ≡ At i → (x ≢ Done) × (n ≡ i)
+unfolding decidedAt
+named-at Done n i e = let z : _≡_ {A = ℕ} 0 1 = cc in absurd (omega arith)
+named-at Sleep n i e = (λ (d : Sleep ≡ Done). let z : _≡_ {A = ℕ} 0 1 = cc in omega arith, cc)
+named-at Again n i e = (λ (d : Again ≡ Done). let z : _≡_ {A = ℕ} 0 1 = cc in omega arith, cc)
+named-at Range n i e = (λ (d : Range ≡ Done). let z : _≡_ {A = ℕ} 0 1 = cc in omega arith, cc)
+
+-- it decides
+pub decides : (start : Copies) (os : List Operation) (i : ℕ) → positionOf (judge start os) ≡ At i → Decides start os i
+decides start os i e =
+    let g : Goes start os start 0 = goes start os start 0 in
+    let n : (judge start os .outcome ≢ Done) × (judge start os .position ≡ i) = named-at (judge start os .outcome) (judge start os .position) i e in
+    let t : g .through ≡ i = omega (arith, g .position, n .1) in
+    let d : Decides start os (g .through) = record { there = g .there (n .0); before = g .before; decides = g .decides; stops = n .0 } in
+    rw t at d
+
+-- an array that is not done names one
+names-one : (x : Outcome) (n : ℕ) → x ≢ Done → decidedAt x n ≡ At n
+unfolding decidedAt
+names-one Done n h = absurd (h refl)
+names-one Sleep n h = refl
+names-one Again n h = refl
+names-one Range n h = refl
+
+-- no two positions decide
+later : {start : Copies} {os : List Operation} (i j : ℕ) → Decides start os i → Decides start os j → i < j → ⊥
+later i j a b h = a .stops (sym (a .decides) ∙ b .before (suc i) h)
+
+-- the operation that decides is the one that is named
+pub decider : (start : Copies) (os : List Operation) (i : ℕ) → Decides start os i → positionOf (judge start os) ≡ At i
+decider start os i d = named ∙ ap At (same (ltb i k) refl (ltb k i) refl)
+  where
+    k : ℕ
+    k = judge start os .position
+
+    named : positionOf (judge start os) ≡ At (judge start os .position)
+    named = names-one (judge start os .outcome) (judge start os .position) (d .stops)
+
+    same : (a : Bool) → ltb i k ≡ a → (b : Bool) → ltb k i ≡ b → k ≡ i
+    same true a b h = absurd (later i k d (decides start os k named) (ltb-true i k a))
+    same false a true h = absurd (later k i (decides start os k named) d (ltb-true k i h))
+    same false a false h = omega (arith, ltb-false i k a, ltb-false k i h)
+
+-- ---- looks and events
+
+-- a look that names an operation, and so the waking that it ends in
+pub look-decides : (t : Table) (s : Sleeper) (i : ℕ) → positionOf (look t s) ≡ At i → Decides (copiesOf t s) (operationsOf (s .array)) i
+unfolding look
+look-decides t s i e = decides (copiesOf t s) (operationsOf (s .array)) i e
+
+-- a check names none, and what it lets through may name one
+checked-named : (code : ℕ) (s : State) (r : Result) (P : Position → Type 0) → P Nowhere → P (r .answer .position) → P (checked code s r .answer .position)
+checked-named zero s r P n h = h
+checked-named (suc code) s r P n h = n
+
+-- an operate names the operation that decides its call
+operated-named : (wake : Waker) (s : State) (c : Sleeper) (x : Outcome) (copies : Copies) (k : ℕ)
+    → operated wake s c x (positionOf (look (s .table) c)) copies .answer .position ≡ At k → Decides (copiesOf (s .table) c) (operationsOf (c .array)) k
+unfolding operated
+operated-named wake s c Done copies k e = let z : _≡_ {A = ℕ} 0 1 = cc in absurd (omega arith)
+operated-named wake s c Sleep copies k e = look-decides (s .table) c k e
+operated-named wake s c Again copies k e = look-decides (s .table) c k e
+operated-named wake s c Range copies k e = look-decides (s .table) c k e
+
+pub event-named : (engine : Engine) (s : State) (e : Event) → Named s e (event (waker engine) s e .answer)
+unfolding event doCreate doOperate doSetValue doRemove doSignal doExit doQuery
+event-named engine s (create count read alter) = checked-named (checkCreate s count) s _ (λ at. at ≡ Nowhere) refl refl
+event-named engine s (operate p i bytes) =
+    checked-named (checkOperate s p i bytes) s _ (λ at. (k : ℕ) → at ≡ At k → Decides (copiesOf (s .table) (call p i bytes)) (operationsOf bytes) k)
+    (λ k e. let z : _≡_ {A = ℕ} 0 1 = cc in absurd (omega arith))
+    (operated-named (waker engine) s (call p i bytes) _ _)
+event-named engine s (setValue i n v) = checked-named (checkSetValue s i n v) s _ (λ at. at ≡ Nowhere) refl refl
+event-named engine s (remove i) = checked-named (checkSet s i) s _ (λ at. at ≡ Nowhere) refl refl
+event-named engine s (signal p) = checked-named (checkProcess p) s _ (λ at. at ≡ Nowhere) refl refl
+event-named engine s (exit p) = checked-named (checkProcess p) s _ (λ at. at ≡ Nowhere) refl refl
+event-named engine s (query i n) = checked-named (checkNumber s i n) s _ (λ at. at ≡ Nowhere) refl refl
