@@ -9,7 +9,6 @@ pub mod LookLaws
 pub mod QueueLaws
 pub mod TableLaws
 pub mod CheckLaws
-pub mod Positions
 pub mod Ones
 -- a waking, in either engine:
 pub mod WakingLaws
@@ -17,7 +16,8 @@ pub mod Rules
 pub mod Calm
 pub mod CleanLaws
 pub mod Unmarked
--- a refused event changes nothing, the two engines agree, what a whole set shows, and the situations:
+-- the operation that judging names; a refused event changes nothing, the two engines agree, what a whole set shows, and the situations:
+pub mod Positions
 pub mod Refusals
 pub mod Agree
 pub mod EventLaws

@@ -8,7 +8,8 @@ use mathlib.Core.Logic.{_≢_}
 use mathlib.Core.Bool.{Bool, true, false}
 use mathlib.Core.List.{List, [], _∷_}
 use lib.Dec.{ltb}
-use lib.ListN.{length, take}
+use lib.ListN.{length, take, getD}
+use lib.IntN.{ℤ, pos}
 use borrow.Author.Tests.{ltb-true, ltb-false}
 use Rattle.model.specs.declared.Operation.{Operation}
 use Rattle.model.specs.declared.Outcome.{Outcome}
@@ -18,14 +19,19 @@ use Rattle.model.specs.declared.Position.the-variants.{Nowhere, At}
 use Rattle.model.specs.declared.Copies.{Copies}
 use Rattle.model.specs.declared.Judged.{Judged}
 use Rattle.model.specs.declared.Engine.{Engine}
-use Rattle.model.specs.State.{State, Table, Sleeper}
+use Rattle.model.specs.declared.Set.{Set}
+use Rattle.model.specs.State.{State, Table, Sleeper, noSleeper}
 use Rattle.model.specs.Operation.{operationsOf}
-use Rattle.model.specs.Judge.{judged, step, goOn, judgeFrom, judge, decidedAt, positionOf}
+use Rattle.model.specs.Judge.{judged, step, goOn, judgeFrom, judge, codeOf, decidedAt, positionOf, finishes}
 use Rattle.model.specs.Look.{copiesOf, look}
-use Rattle.model.specs.Waking.{Waker, waker}
-use Rattle.model.specs.Checks.{checkCreate, checkOperate, checkNumber, checkSetValue, checkSet, checkProcess}
-use Rattle.model.specs.Events.{Event, create, operate, setValue, remove, signal, exit, query, Result, checked, operated, call, event, doCreate, doOperate, doSetValue, doRemove, doSignal, doExit, doQuery}
-use Rattle.model.specs.Positions.{Decides, Named}
+use Rattle.model.specs.Waking.{World, Ended, Waker, waker, waking, finish}
+use Rattle.model.specs.Checks.{live, slotOf, checkCreate, checkOperate, checkNumber, checkSetValue, checkSet, checkProcess}
+use Rattle.model.specs.Events.{Event, create, operate, setValue, remove, signal, exit, query, Result, checked, endedWith, operated, call, treat, treatFrom, event, doCreate, doOperate, doSetValue, doRemove, doSignal, doExit, doQuery}
+use Rattle.model.specs.Runs.{All, none, also}
+use Rattle.model.specs.Positions.{Decides, WakingNamed, done, again, range, removed, signalled, Named, Names}
+use Rattle.model.proofs.Lists.{all-append}
+use Rattle.model.proofs.JudgeLaws.{either}
+use Rattle.model.proofs.Rules.{tame}
 
 -- ---- how far an array goes
 
@@ -167,15 +173,71 @@ operated-named wake s c Sleep copies k e = look-decides (s .table) c k e
 operated-named wake s c Again copies k e = look-decides (s .table) c k e
 operated-named wake s c Range copies k e = look-decides (s .table) c k e
 
-pub event-named : (engine : Engine) (s : State) (e : Event) → Named s e (event (waker engine) s e .answer)
+answer-named : (engine : Engine) (s : State) (e : Event) → Named s e (event (waker engine) s e .answer)
 unfolding event doCreate doOperate doSetValue doRemove doSignal doExit doQuery
-event-named engine s (create count read alter) = checked-named (checkCreate s count) s _ (λ at. at ≡ Nowhere) refl refl
-event-named engine s (operate p i bytes) =
+answer-named engine s (create count read alter) = checked-named (checkCreate s count) s _ (λ at. at ≡ Nowhere) refl refl
+answer-named engine s (operate p i bytes) =
     checked-named (checkOperate s p i bytes) s _ (λ at. (k : ℕ) → at ≡ At k → Decides (copiesOf (s .table) (call p i bytes)) (operationsOf bytes) k)
     (λ k e. let z : _≡_ {A = ℕ} 0 1 = cc in absurd (omega arith))
     (operated-named (waker engine) s (call p i bytes) _ _)
-event-named engine s (setValue i n v) = checked-named (checkSetValue s i n v) s _ (λ at. at ≡ Nowhere) refl refl
-event-named engine s (remove i) = checked-named (checkSet s i) s _ (λ at. at ≡ Nowhere) refl refl
-event-named engine s (signal p) = checked-named (checkProcess p) s _ (λ at. at ≡ Nowhere) refl refl
-event-named engine s (exit p) = checked-named (checkProcess p) s _ (λ at. at ≡ Nowhere) refl refl
-event-named engine s (query i n) = checked-named (checkNumber s i n) s _ (λ at. at ≡ Nowhere) refl refl
+answer-named engine s (setValue i n v) = checked-named (checkSetValue s i n v) s _ (λ at. at ≡ Nowhere) refl refl
+answer-named engine s (remove i) = checked-named (checkSet s i) s _ (λ at. at ≡ Nowhere) refl refl
+answer-named engine s (signal p) = checked-named (checkProcess p) s _ (λ at. at ≡ Nowhere) refl refl
+answer-named engine s (exit p) = checked-named (checkProcess p) s _ (λ at. at ≡ Nowhere) refl refl
+answer-named engine s (query i n) = checked-named (checkNumber s i n) s _ (λ at. at ≡ Nowhere) refl refl
+
+-- ---- wakings
+
+-- an array that is finished by a look names an operation unless it is done
+finished-named : (p : ℕ) (x : Outcome) (i : ℕ) → finishes x ≡ true → WakingNamed (waking p (codeOf x) (decidedAt x i))
+unfolding codeOf decidedAt finishes
+finished-named p Done i e = done p
+finished-named p Sleep i e = let z : _≡_ {A = ℕ} 0 1 = cc in absurd (omega arith)
+finished-named p Again i e = again p i
+finished-named p Range i e = range p i
+
+abbrev AllNamed : World → Type 0
+AllNamed w = All WakingNamed (w .wakings)
+
+wake-named : (engine : Engine) (slot touched : ℕ) (w : World) (l : ℕ) → AllNamed w → AllNamed (waker engine slot touched w l .world)
+unfolding finish
+wake-named engine slot touched w l =
+    tame engine .keeps slot touched w l AllNamed
+    (λ w i h lt mi f. all-append (w .wakings) (_ ∷ []) h (also (finished-named (getD (w .queue) i noSleeper .process) (look (w .table) (getD (w .queue) i noSleeper) .outcome) _ f) none))
+
+treat-named : (engine : Engine) (sets : List Set) (slot : ℕ) (touches : List ℕ) (e : Ended) → AllNamed (e .world) → AllNamed (treatFrom (waker engine) sets slot touches e .world)
+unfolding treatFrom treat
+treat-named engine sets slot [] e h = h
+treat-named engine sets slot (touched ∷ more) e h =
+    treat-named engine sets (slot + 1) more (treat (waker engine) sets slot touched e)
+    (either (λ (x : Ended). AllNamed (x .world)) (live sets slot) _ _ (wake-named engine slot touched (e .world) (e .looks) h) h)
+
+ended-named : (code : ℤ) (test : Sleeper → Bool) (q : List Sleeper) → ((p : ℕ) → WakingNamed (waking p code Nowhere)) → All WakingNamed (endedWith code test q)
+unfolding endedWith
+ended-named code test [] h = none
+ended-named code test (s ∷ q) h = either (All WakingNamed) (test s) _ _ (also (h (s .process)) (ended-named code test q h)) (ended-named code test q h)
+
+checked-wakings : (code : ℕ) (s : State) (r : Result) → All WakingNamed (r .wakings) → All WakingNamed (checked code s r .wakings)
+checked-wakings zero s r h = h
+checked-wakings (suc code) s r h = none
+
+operated-wakings : (engine : Engine) (s : State) (c : Sleeper) (x : Outcome) (at : Position) (copies : Copies) → All WakingNamed (operated (waker engine) s c x at copies .wakings)
+unfolding operated
+operated-wakings engine s c Done at copies = wake-named engine (c .slot) _ _ 0 none
+operated-wakings engine s c Sleep at copies = none
+operated-wakings engine s c Again at copies = none
+operated-wakings engine s c Range at copies = none
+
+wakings-named : (engine : Engine) (s : State) (e : Event) → All WakingNamed (event (waker engine) s e .wakings)
+unfolding event doCreate doOperate doSetValue doRemove doSignal doExit doQuery
+wakings-named engine s (create count read alter) = checked-wakings (checkCreate s count) s _ none
+wakings-named engine s (operate p i bytes) = checked-wakings (checkOperate s p i bytes) s _ (operated-wakings engine s (call p i bytes) _ _ _)
+wakings-named engine s (setValue i n v) = checked-wakings (checkSetValue s i n v) s _ (wake-named engine (slotOf i) _ _ 0 none)
+wakings-named engine s (remove i) = checked-wakings (checkSet s i) s _ (ended-named (pos 43) _ (s .queue) removed)
+wakings-named engine s (signal p) = checked-wakings (checkProcess p) s _ (ended-named (pos 4) _ (s .queue) signalled)
+wakings-named engine s (exit p) = checked-wakings (checkProcess p) s _ (treat-named engine (s .sets) 0 _ _ none)
+wakings-named engine s (query i n) = checked-wakings (checkNumber s i n) s _ none
+
+-- in any state, in either engine
+pub event-names : (engine : Engine) (s : State) (e : Event) → Names s e (event (waker engine) s e)
+event-names engine s e = record { answer = answer-named engine s e; wakings = wakings-named engine s e }

@@ -10,7 +10,7 @@ pub mod Checks
 pub mod Counts
 pub mod Events
 pub mod WholeSet
-pub mod Positions
 pub mod Runs
+pub mod Positions
 pub mod Invariant
 pub mod Situations

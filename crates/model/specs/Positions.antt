@@ -4,15 +4,19 @@ use mathlib.Core.Path.{_≡_}
 use mathlib.Core.Logic.{_≢_}
 use mathlib.Core.List.{List}
 use lib.ListN.{length, take}
+use lib.IntN.{pos}
 use Rattle.model.specs.declared.Operation.{Operation}
 use Rattle.model.specs.declared.Outcome.the-variants.{Done}
 use Rattle.model.specs.declared.Position.the-variants.{Nowhere, At}
 use Rattle.model.specs.declared.Copies.{Copies}
+use Rattle.model.specs.declared.Waking.{Waking}
 use Rattle.model.specs.State.{State}
 use Rattle.model.specs.Operation.{operationsOf}
 use Rattle.model.specs.Judge.{judge}
 use Rattle.model.specs.Look.{copiesOf}
-use Rattle.model.specs.Events.{Event, create, operate, setValue, remove, signal, exit, query, Answer, call}
+use Rattle.model.specs.Waking.{waking}
+use Rattle.model.specs.Events.{Event, create, operate, setValue, remove, signal, exit, query, Answer, Result, call}
+use Rattle.model.specs.Runs.{All}
 
 -- The operation at a position decides how an array is judged: the operations before it, judged alone on the same copies, are done;
 -- it is the first that is not, and with it the outcome is that of the whole array.
@@ -21,6 +25,14 @@ pub record Decides (start : Copies) (os : List Operation) (i : ℕ) : Type 0 whe
   pub before : (k : ℕ) → k ≤ i → judge start (take k os) .outcome ≡ Done
   pub decides : judge start (take (suc i) os) .outcome ≡ judge start os .outcome
   pub stops : judge start os .outcome ≢ Done
+
+-- "each waking with 11 or 34" names an operation; one with 0, 43 or 4 names none
+pub data WakingNamed : Waking → Type 0 where
+  done : (p : ℕ) → WakingNamed (waking p (pos 0) Nowhere)
+  again : (p k : ℕ) → WakingNamed (waking p (pos 11) (At k))
+  range : (p k : ℕ) → WakingNamed (waking p (pos 34) (At k))
+  removed : (p : ℕ) → WakingNamed (waking p (pos 43) Nowhere)
+  signalled : (p : ℕ) → WakingNamed (waking p (pos 4) Nowhere)
 
 -- The operation that an event's answer names decides, on the state as it stood; only an operate's names one.
 abbrev pub Named : State → Event → Answer → Type 0
@@ -31,3 +43,8 @@ Named s (remove i) a = a .position ≡ Nowhere
 Named s (signal p) a = a .position ≡ Nowhere
 Named s (exit p) a = a .position ≡ Nowhere
 Named s (query i n) a = a .position ≡ Nowhere
+
+-- what is claimed of one event
+pub record Names (s : State) (e : Event) (r : Result) : Type 0 where
+  pub answer : Named s e (r .answer)
+  pub wakings : All WakingNamed (r .wakings)

@@ -1,7 +1,7 @@
 -- `wakings::code_of` meets its contract.
 use mathlib.Core.Path.{sym, ap}
 use borrow.Author.Needs.{needs}
-use Rattle.model.specs.declared.Waking.{Waking}
+use Rattle.wakings.specs.Wakings.{Place}
 use Rattle.wakings.proofs.ListLaws.{at-place, at-none}
 use Rattle.wakings.proofs.code_of.Statement.{statement}
 use Rattle.wakings.proofs.code_of.Tie as tie
@@ -18,12 +18,12 @@ element-copy-out-result c = search needs
 returns : tie.Need-returns
 returns c =
     let a = c .before .before .args in
-    ap (λ (w : Waking). w .code) (sym (at-place (a .list .now) (a .at) (search needs)))
+    ap (λ (x : Place). x .code) (sym (at-place (a .list .now) (a .at) (search needs)))
 
 returns-2 : tie.Need-returns-2
 returns-2 c =
     let a = c .before .args in
-    ap (λ (w : Waking). w .code) (sym (at-none (a .list .now) (a .at) (search needs)))
+    ap (λ (x : Place). x .code) (sym (at-none (a .list .now) (a .at) (search needs)))
 
 pub code-of-spec : {M : Type 1} → statement M
 code-of-spec = tie.close (tie.spec mul-result add-result element-copy-out-result returns returns-2)

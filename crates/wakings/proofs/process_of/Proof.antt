@@ -1,7 +1,7 @@
 -- `wakings::process_of` meets its contract.
 use mathlib.Core.Path.{sym, ap}
 use borrow.Author.Needs.{needs}
-use Rattle.model.specs.declared.Waking.{Waking}
+use Rattle.wakings.specs.Wakings.{Place}
 use Rattle.wakings.proofs.ListLaws.{at-place, at-none}
 use Rattle.wakings.proofs.process_of.Statement.{statement}
 use Rattle.wakings.proofs.process_of.Tie as tie
@@ -15,12 +15,12 @@ element-copy-out-result c = search needs
 returns : tie.Need-returns
 returns c =
     let a = c .before .before .args in
-    ap (λ (w : Waking). w .process) (sym (at-place (a .list .now) (a .at) (search needs)))
+    ap (λ (x : Place). x .process) (sym (at-place (a .list .now) (a .at) (search needs)))
 
 returns-2 : tie.Need-returns-2
 returns-2 c =
     let a = c .before .args in
-    ap (λ (w : Waking). w .process) (sym (at-none (a .list .now) (a .at) (search needs)))
+    ap (λ (x : Place). x .process) (sym (at-none (a .list .now) (a .at) (search needs)))
 
 pub process-of-spec : {M : Type 1} → statement M
 process-of-spec = tie.close (tie.spec mul-result element-copy-out-result returns returns-2)
