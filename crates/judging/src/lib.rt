@@ -21,6 +21,7 @@ pub use identifier::in_range;
 pub use identifier::slot_of;
 pub use identifier::value_of;
 pub use named::names_of;
+pub use outcome::decided;
 pub use outcome::finishes;
 pub use stop::stop_of;
 pub use walk::Verdict;

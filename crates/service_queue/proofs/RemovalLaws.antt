@@ -10,6 +10,7 @@ use borrow.Author.Tests.{eq-eqb, ne-eqb}
 use lib.ListN.{length, getD, take, drop, set, length-append, drop-of-length-le}
 use lib.Seq.{take-all, take-suc, drop-cons, append-snoc, take-at, drop-at, length-take-le}
 use lib.IntN.{ℤ, pos}
+use Rattle.model.specs.declared.Position.the-variants.{Nowhere}
 use Rattle.model.specs.declared.Waking.{Waking}
 use Rattle.model.specs.Limits.{processes}
 use Rattle.model.specs.State.{Sleeper, noSleeper}
@@ -21,7 +22,7 @@ use Rattle.host.specs.Parts.{Row, order, sleepsAt}
 use Rattle.host.specs.Holding.{withQueue, entry, queueIn}
 use Rattle.host.specs.Queue.{Queued, QueueHeld}
 use Rattle.host.proofs.QueueRows.{queued-without}
-use Rattle.wakings.specs.Wakings.{listOf}
+use Rattle.wakings.specs.Wakings.{Place, placeOf, listOf}
 use Rattle.wakings.proofs.ListLaws.{noted}
 use Rattle.service_queue.proofs.MovingLaws.{without-split}
 use Rattle.service_queue.proofs.QueueHeldLaws.{queue-again, shows, row-with, process-is, slot-is}
@@ -48,7 +49,7 @@ module _ (test : Sleeper → Bool) (q : List Sleeper) (i : ℕ) (h : i < length 
   ended-passes code e = rw (add-one, drop-cons q i noSleeper h, endedWith, e)
 
   ended-leaves : (code : ℤ) → test (getD q i noSleeper) ≡ true
-      → endedWith code test (drop i q) ≡ waking (getD q i noSleeper .process) code ∷ endedWith code test (drop i (without q i))
+      → endedWith code test (drop i q) ≡ waking (getD q i noSleeper .process) code Nowhere ∷ endedWith code test (drop i (without q i))
   unfolding endedWith
   ended-leaves code e = rw (drop-without, drop-cons q i noSleeper h, endedWith, e)
 
@@ -79,9 +80,9 @@ module _ {slot : ℕ} {q₀ q : List Sleeper} {ended : List Waking} {i : ℕ} (v
           told = ap (λ (w : List Waking). ended ++ w) (sym (ended-passes (mine slot) q i h (pos 43) e)) ∙ v .told;
         }
 
-    ending-one : mine slot (getD q i noSleeper) ≡ true → Ending slot q₀ (without q i) (ended ++ waking (getD q i noSleeper .process) (pos 43) ∷ []) i
+    ending-one : mine slot (getD q i noSleeper) ≡ true → Ending slot q₀ (without q i) (ended ++ waking (getD q i noSleeper .process) (pos 43) Nowhere ∷ []) i
     ending-one e =
-        let w : Waking = waking (getD q i noSleeper .process) (pos 43) in
+        let w : Waking = waking (getD q i noSleeper .process) (pos 43) Nowhere in
         record {
           within = omega (arith, length-without q i h);
           room = omega (arith, v .room, length-append ended (w ∷ []), length-without q i h);
@@ -91,7 +92,7 @@ module _ {slot : ℕ} {q₀ q : List Sleeper} {ended : List Waking} {i : ℕ} (v
 
 -- ---- the row and the list of wakings
 
-pub record Removing (slot : ℕ) (r₀ r : Row) (wakings : List Waking) (woken i : ℕ) : Type 0 where
+pub record Removing (slot : ℕ) (r₀ r : Row) (wakings : List Place) (woken i : ℕ) : Type 0 where
   pub holding : QueueHeld r
   pub same : r ≡ withQueue r₀ (queueIn r)
   pub ended : List Waking
@@ -99,11 +100,11 @@ pub record Removing (slot : ℕ) (r₀ r : Row) (wakings : List Waking) (woken i
   pub count : woken ≡ length ended
   pub ending : Ending slot (queueIn r₀) (queueIn r) ended i
 
-pub removing-none : {slot : ℕ} {r : Row} {wakings : List Waking} → QueueHeld r → wakings ≡ listOf [] → Removing slot r r wakings 0 0
+pub removing-none : {slot : ℕ} {r : Row} {wakings : List Place} → QueueHeld r → wakings ≡ listOf [] → Removing slot r r wakings 0 0
 removing-none k e =
     record { holding = k; same = k .holds; ended = []; listed = e; count = refl; ending = record { within = omega arith; room = omega (arith, k .fits .few); kept = refl; told = refl } }
 
-module _ {slot : ℕ} {r₀ r : Row} {wakings : List Waking} {woken i : ℕ} (v : Removing slot r₀ r wakings woken i) where
+module _ {slot : ℕ} {r₀ r : Row} {wakings : List Place} {woken i : ℕ} (v : Removing slot r₀ r wakings woken i) where
   pub removed-all : length (queueIn r) ≤ i → r ≡ withQueue r₀ (keep (notMine slot) (queueIn r₀))
   removed-all l = v .same ∙ ap (withQueue r₀) (kept-all (v .ending) l)
 
@@ -142,18 +143,18 @@ module _ {slot : ℕ} {r₀ r : Row} {wakings : List Waking} {woken i : ℕ} (v 
       pub one-less : length (queueIn r′) + 1 ≡ length (queueIn r)
       one-less = ap (λ (q : List Sleeper). length q + 1) now ∙ length-without (queueIn r) i h
 
-      pub removing-one : {wakings′ : List Waking} → at ≡ slot → wakings′ ≡ set wakings woken (waking p (pos 43)) → Removing slot r₀ r′ wakings′ (woken + 1) i
+      pub removing-one : {wakings′ : List Place} → at ≡ slot → wakings′ ≡ set wakings woken (placeOf (waking p (pos 43) Nowhere)) → Removing slot r₀ r′ wakings′ (woken + 1) i
       unfolding mine
       removing-one {wakings′} e ew =
           let s : Sleeper = getD (queueIn r) i noSleeper in
-          let w : Waking = waking (s .process) (pos 43) in
+          let w : Waking = waking (s .process) (pos 43) Nowhere in
           let m : mine slot s ≡ true = eq-eqb (s .slot) slot (sym slot-there ∙ e) in
-          let here : waking p (pos 43) ≡ w = ap (λ (n : ℕ). waking n (pos 43)) (ep ∙ process-is (v .holding) i h) in
+          let here : waking p (pos 43) Nowhere ≡ w = ap (λ (n : ℕ). waking n (pos 43) Nowhere) (ep ∙ process-is (v .holding) i h) in
           record {
             holding = row-with r er fits;
             same = er ∙ ap (λ (x : Row). withQueue x (without (queueIn r) i)) (v .same) ∙ queue-again r₀ (queueIn r) (without (queueIn r) i) ∙ ap (withQueue r₀) (sym now);
             ended = v .ended ++ w ∷ [];
-            listed = ew ∙ ap₂ (λ (l : List Waking) (k : ℕ). set l k (waking p (pos 43))) (v .listed) (v .count) ∙ ap (λ (x : Waking). set (listOf (v .ended)) (length (v .ended)) x) here ∙ noted (v .ended) (s .process) (pos 43) (omega (arith, v .ending .room));
+            listed = ew ∙ ap₂ (λ (l : List Place) (k : ℕ). set l k (placeOf (waking p (pos 43) Nowhere))) (v .listed) (v .count) ∙ ap (λ (x : Waking). set (listOf (v .ended)) (length (v .ended)) (placeOf x)) here ∙ noted (v .ended) w (omega (arith, v .ending .room));
             count = ap (λ (n : ℕ). n + 1) (v .count) ∙ sym (length-append (v .ended) (w ∷ []));
             ending = subst (λ (q : List Sleeper). Ending slot (queueIn r₀) q (v .ended ++ w ∷ []) i) (sym now) (ending-one (v .ending) h m);
           }

@@ -15,7 +15,7 @@ ghost use Rattle.model.specs.Runs.{All};
 ghost use Rattle.host.specs.Parts.{order, rowIn, with};
 ghost use Rattle.host.specs.Holding.{withQueue, queueIn};
 ghost use Rattle.host.specs.Queue.{Room, QueueHeld};
-ghost use Rattle.wakings.specs.Wakings.{wakingsIn, listOf};
+ghost use Rattle.wakings.specs.Wakings.{placesIn, listOf};
 ghost use Rattle.service_table.specs.Numbered.{Numbered};
 ghost use Rattle.service_queue.specs.Seated.{Seated, positionOf, movedUp};
 use host::HOST_BYTES;
@@ -29,6 +29,7 @@ use host::size_at;
 use host::slot_at;
 use host::store_array;
 use judging::names_of;
+use model::Position;
 use model::WAKING_BYTES;
 use wakings::note;
 
@@ -128,9 +129,9 @@ pub fn remove_set(
     slot: usize,
 ) -> usize
     requires { ⌜ QueueHeld (rowIn (now host)) ⌝ }
-    requires { ⌜ wakingsIn (now wakings) ≡ listOf [] ⌝ }
+    requires { ⌜ placesIn (now wakings) ≡ listOf [] ⌝ }
     ensures { λ _. ⌜ rowIn (now (host .exit)) ≡ withQueue (rowIn (now (host .entry))) (keep (notMine slot) (queueIn (rowIn (now (host .entry))))) ⌝ }
-    ensures { λ _. ⌜ wakingsIn (now (wakings .exit)) ≡ listOf (endedWith (pos 43) (mine slot) (queueIn (rowIn (now (host .entry))))) ⌝ }
+    ensures { λ _. ⌜ placesIn (now (wakings .exit)) ≡ listOf (endedWith (pos 43) (mine slot) (queueIn (rowIn (now (host .entry))))) ⌝ }
     ensures { λ r. ⌜ r ≡ length (endedWith (pos 43) (mine slot) (queueIn (rowIn (now (host .entry))))) ⌝ }
 {
     let mut woken = 0;
@@ -139,7 +140,7 @@ pub fn remove_set(
         let process = process_at(&*host, i);
         if slot_at(&*host, process) == slot {
             take_out(&mut *host, i);
-            note(&mut *wakings, woken, process, 43);
+            note(&mut *wakings, woken, process, 43, Position::Nowhere);
             woken += 1;
         } else {
             i += 1;

@@ -5,14 +5,14 @@ use borrow.Author.Needs.{needs}
 use lib.ListN.{length}
 use Rattle.host.specs.Parts.{rowIn}
 use Rattle.host.specs.Holding.{queueIn}
-use Rattle.wakings.specs.Wakings.{wakingsIn}
+use Rattle.wakings.specs.Wakings.{placesIn}
 use Rattle.service_queue.proofs.QueueHeldLaws.{asleep-is}
 use Rattle.service_queue.proofs.RemovalLaws.{Removing, removing-none, removing-one, removing-other, one-less, woken-few, removed-all, listed-all, counted-all}
 use Rattle.service_queue.proofs.remove_set.Statement.{statement}
 use Rattle.service_queue.proofs.remove_set.Tie as tie
 
 abbrev Inv-loop : tie.InvT-loop
-Inv-loop host₀ wakings₀ slot woken₀ i₀ host wakings woken i = Removing slot (rowIn host₀) (rowIn host) (wakingsIn wakings) woken i
+Inv-loop host₀ wakings₀ slot woken₀ i₀ host wakings woken i = Removing slot (rowIn host₀) (rowIn host) (placesIn wakings) woken i
 
 abbrev μ-loop : tie.MeasureT-loop
 μ-loop host₀ wakings₀ slot woken₀ i₀ host wakings woken i = length (queueIn (rowIn host)) - i
