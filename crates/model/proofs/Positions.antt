@@ -1,6 +1,6 @@
 -- The operation that judging names: it is the first that does not go through, and the only one of which that is true
 -- (specs/Positions.antt).
-use Prim.Native.Nat.{ℕ, zero, suc, _+_, _≤_, _<_}
+use Prim.Native.Nat.{ℕ, zero, suc, _+_, _/_, _≤_, _<_}
 use native.Mathlib.Nat.{not-suc-le-zero, le-of-suc-le-suc, add-zero}
 use native.Mathlib.Omega.{arith}
 use mathlib.Core.Path.{_≡_, refl, sym, ap, _∙_}
@@ -20,14 +20,16 @@ use Rattle.model.specs.declared.Copies.{Copies}
 use Rattle.model.specs.declared.Judged.{Judged}
 use Rattle.model.specs.declared.Engine.{Engine}
 use Rattle.model.specs.declared.Set.{Set}
+use Rattle.model.specs.Limits.{operations, operationBytes}
 use Rattle.model.specs.State.{State, Table, Sleeper, noSleeper}
-use Rattle.model.specs.Operation.{operationsOf}
+use Rattle.model.specs.Operation.{operationsFrom, operationsOf}
 use Rattle.model.specs.Judge.{judged, step, goOn, judgeFrom, judge, codeOf, decidedAt, positionOf, finishes}
 use Rattle.model.specs.Look.{copiesOf, look}
 use Rattle.model.specs.Waking.{World, Ended, Waker, waker, waking, finish}
 use Rattle.model.specs.Checks.{live, slotOf, checkCreate, checkOperate, checkNumber, checkSetValue, checkSet, checkProcess}
 use Rattle.model.specs.Events.{Event, create, operate, setValue, remove, signal, exit, query, Result, checked, endedWith, operated, call, treat, treatFrom, event, doCreate, doOperate, doSetValue, doRemove, doSignal, doExit, doQuery}
 use Rattle.model.specs.Runs.{All, none, also}
+use Rattle.model.specs.Invariant.{Fits}
 use Rattle.model.specs.Positions.{Decides, WakingNamed, done, again, range, removed, signalled, Named, Names}
 use Rattle.model.proofs.Lists.{all-append}
 use Rattle.model.proofs.JudgeLaws.{either}
@@ -105,6 +107,18 @@ goes start (o ∷ os) c i = either-way start o os c i (goes start os (step c o i
 -- the position is that of an operation, or their number
 pub position-within : (start : Copies) (os : List Operation) → judge start os .position ≤ length os
 position-within start os = let g : Goes start os start 0 = goes start os start 0 in omega (arith, g .position, g .most)
+
+length-operations : (bytes : List ℕ) (at n : ℕ) → length (operationsFrom bytes at n) ≡ n
+unfolding operationsFrom
+length-operations bytes at zero = refl
+length-operations bytes at (suc n) = ap suc (length-operations bytes (at + operationBytes) n)
+
+-- of a call that passed the checks it is small
+pub position-small : {sets : List Set} (t : Table) (s : Sleeper) → Fits sets s → look t s .position ≤ operations
+unfolding look
+position-small t s f =
+    let n : length (operationsOf (s .array)) ≡ length (s .array) / operationBytes = length-operations (s .array) 0 _ in
+    omega (arith, position-within (copiesOf t s) (operationsOf (s .array)), n, f .short)
 
 -- ---- the operation that is named
 

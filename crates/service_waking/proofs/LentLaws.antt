@@ -4,19 +4,21 @@ use native.Mathlib.Omega.{arith}
 use mathlib.Core.Path.{_≡_, refl, sym, ap, ap₂, subst, _∙_}
 use mathlib.Core.List.{List, [], _∷_, _++_}
 use lib.IntN.{ℤ, pos}
-use lib.ListN.{length, getD, set, take}
+use lib.ListN.{length, getD, set}
 use types.Run.{OneOf, miss}
 use denote.Enum.Declared.{tagOf}
 use Rattle.model.proofs.Outcome.{the-type}
 use Rattle.model.specs.declared.Set.{Set}
+use Rattle.model.specs.declared.Position.{Position}
 use Rattle.model.specs.declared.Waking.{Waking}
 use Rattle.model.specs.declared.Operation.{Operation}
 use Rattle.model.specs.declared.Copies.{Copies}
+use Rattle.model.specs.declared.Judged.{Judged}
 use Rattle.model.specs.declared.Outcome.{Outcome}
 use Rattle.model.specs.declared.Outcome.the-variants.{Done, Sleep, Again, Range}
 use Rattle.model.specs.Limits.{semaphores, processes}
 use Rattle.model.specs.State.{Table, Sleeper, noSleeper, row}
-use Rattle.model.specs.Judge.{codeOf}
+use Rattle.model.specs.Judge.{codeOf, decidedAt, positionOf}
 use Rattle.model.specs.Look.{look, after, applied}
 use Rattle.model.specs.Waking.{World, finish, without, waking}
 use Rattle.model.specs.Invariant.{Fits, Calm, countAt}
@@ -27,7 +29,7 @@ use Rattle.host.specs.Holding.{withQueue, withTable, setsFrom, setsIn, entry, a
 use Rattle.host.specs.Queue.{Queued, QueueHeld}
 use Rattle.host.proofs.PartLaws.{by-groups}
 use Rattle.host.proofs.QueueRows.{queued, queue-back, order-at, slot-read, array-read-back}
-use Rattle.wakings.specs.Wakings.{listOf}
+use Rattle.wakings.specs.Wakings.{Place, placeOf, listOf, wakingsIn}
 use Rattle.wakings.proofs.ListLaws.{noted, take-listed}
 use Rattle.service_table.specs.Numbered.{IsProcess, Numbered}
 use Rattle.service_waking.specs.Lent.{Lent, worldIn, lentWith, Ready, JudgedAs}
@@ -75,7 +77,7 @@ pub world-back : (x : Lent) (sets : List Set) (w : World) → Calm sets w → wo
 unfolding worldIn lentWith
 world-back x sets w c =
     let q : queueIn (withQueue (withTable (x .host .row) (w .table)) (w .queue)) ≡ w .queue = queue-back _ (w .queue) (calm-queued sets w c) in
-    let k : take (length (w .wakings)) (listOf (w .wakings)) ≡ w .wakings = take-listed (w .wakings) in
+    let k : wakingsIn (length (w .wakings)) (listOf (w .wakings)) ≡ w .wakings = take-listed (w .wakings) in
     ap₂ (λ (a : List Sleeper) (b : List Waking). record { table = w .table; queue = a; wakings = b }) q k
 
 -- .. is ready
@@ -171,7 +173,7 @@ module _ (x : Lent) (r : Ready x) where
 
     -- ---- what finishing it leaves
 
-    module _ (o : Outcome) (c : Copies) (j : JudgedAs (worldIn x .table) (getD (worldIn x .queue) i noSleeper) o c) where
+    module _ (o : Outcome) (n : ℕ) (c : Copies) (j : JudgedAs (worldIn x .table) (getD (worldIn x .queue) i noSleeper) o n c) where
       -- the table after it
       abbrev settled : Table
       settled = after (worldIn x .table) (getD (worldIn x .queue) i noSleeper) o c
@@ -192,28 +194,31 @@ module _ (x : Lent) (r : Ready x) where
           ∙ ap (λ (k : Outcome). after (worldIn x .table) sleeper k (look (worldIn x .table) sleeper .copies)) (j .outcome)
 
       -- the host with that table, without the sleeper, and its waking noted
-      pub finish-lent : (y : Lent) {code : ℕ} → pos code ≡ codeOf o
+      pub finish-lent : (y : Lent) {code : ℕ} {position : Position} → pos code ≡ codeOf o → position ≡ decidedAt o n
           → y .host .row ≡ withQueue (withTable (x .host .row) (after (worldIn x .table) (getD (worldIn x .queue) i noSleeper) o c)) (without (worldIn x .queue) i)
           → y .host .adjustments ≡ after (worldIn x .table) (getD (worldIn x .queue) i noSleeper) o c .adjustments
-          → y .wakings ≡ set (x .wakings) (x .woken) (waking (getD (x .host .row order) i 0) (pos code)) → y .woken ≡ x .woken + 1
+          → y .wakings ≡ set (x .wakings) (x .woken) (placeOf (waking (getD (x .host .row order) i 0) (pos code) position)) → y .woken ≡ x .woken + 1
           → y ≡ lentWith x (finish (worldIn x) i)
       unfolding lentWith finish
-      finish-lent y {code} ec er ea ew en =
-          let w : y .wakings ≡ listOf (worldIn x .wakings ++ waking (sleeper .process) (codeOf (look (worldIn x .table) sleeper .outcome)) ∷ []) =
-          ew ∙ ap₂ (λ (l : List Waking) (n : ℕ). set l n (waking (getD (x .host .row order) i 0) (pos code))) wakings-are woken-is
-          ∙ ap₂ (λ (p : ℕ) (z : ℤ). set (listOf (worldIn x .wakings)) (length (worldIn x .wakings)) (waking p z)) the-process (ec ∙ ap codeOf (j .outcome))
-          ∙ noted (worldIn x .wakings) (sleeper .process) (codeOf (look (worldIn x .table) sleeper .outcome)) (omega (arith, woken-few, woken-is)) in
-          let n : y .woken ≡ length (finish (worldIn x) i .wakings) = en ∙ omega (arith, woken-is, finish-wakings (worldIn x) i) in
+      finish-lent y {code} {position} ec ed er ea ew en =
+          let l : Judged = look (worldIn x .table) sleeper in
+          let d : position ≡ positionOf l = ed ∙ ap₂ decidedAt (j .outcome) (j .position) in
+          let w : y .wakings ≡ listOf (worldIn x .wakings ++ waking (sleeper .process) (codeOf (l .outcome)) (positionOf l) ∷ []) =
+          ew ∙ ap₂ (λ (l : List Place) (n : ℕ). set l n (placeOf (waking (getD (x .host .row order) i 0) (pos code) position))) wakings-are woken-is
+          ∙ ap₂ (λ (p : ℕ) (z : ℤ). set (listOf (worldIn x .wakings)) (length (worldIn x .wakings)) (placeOf (waking p z position))) the-process (ec ∙ ap codeOf (j .outcome))
+          ∙ ap (λ (k : Position). set (listOf (worldIn x .wakings)) (length (worldIn x .wakings)) (placeOf (waking (sleeper .process) (codeOf (l .outcome)) k))) d
+          ∙ noted (worldIn x .wakings) (waking (sleeper .process) (codeOf (l .outcome)) (positionOf l)) (omega (arith, woken-few, woken-is)) in
+          let m : y .woken ≡ length (finish (worldIn x) i .wakings) = en ∙ omega (arith, woken-is, finish-wakings (worldIn x) i) in
           let a : y .host .row ≡ withQueue (withTable (x .host .row) (finish (worldIn x) i .table)) (without (worldIn x .queue) i) =
           er ∙ ap (λ (t : Table). withQueue (withTable (x .host .row) t) (without (worldIn x .queue) i)) settled-is in
           let b : y .host .adjustments ≡ finish (worldIn x) i .table .adjustments = ea ∙ ap (λ (t : Table). t .adjustments) settled-is in
-          together y a b w n
+          together y a b w m
         where
-          together : (y : Lent) {row : Row} {adjustments : List ℤ} {wakings : List Waking} {woken : ℕ} → y .host .row ≡ row → y .host .adjustments ≡ adjustments → y .wakings ≡ wakings → y .woken ≡ woken
+          together : (y : Lent) {row : Row} {adjustments : List ℤ} {wakings : List Place} {woken : ℕ} → y .host .row ≡ row → y .host .adjustments ≡ adjustments → y .wakings ≡ wakings → y .woken ≡ woken
               → y ≡ record { host = record { row = row; adjustments = adjustments }; wakings = wakings; woken = woken }
           together y {row} {adjustments} a b w n =
               ap₂ (λ (p : Row) (l : List ℤ). record { host = record { row = p; adjustments = l }; wakings = y .wakings; woken = y .woken }) a b
-              ∙ ap₂ (λ (l : List Waking) (m : ℕ). record { host = record { row = row; adjustments = adjustments }; wakings = l; woken = m }) w n
+              ∙ ap₂ (λ (l : List Place) (m : ℕ). record { host = record { row = row; adjustments = adjustments }; wakings = l; woken = m }) w n
 
 -- an array that is not done leaves the table
 pub after-stays : (t : Table) (s : Sleeper) (o : Outcome) (c : Copies) → OneOf (1 ∷ 2 ∷ 3 ∷ []) (tagOf the-type o) → t ≡ after t s o c

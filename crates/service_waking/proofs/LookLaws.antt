@@ -35,12 +35,12 @@ module _ (t : Table) where
 -- the copies as they were read, walked over
 pub judged-as : (t : Table) (s : Sleeper) (bytes vs : List ℕ) (us : List ℤ) (o : Outcome) (at : ℕ) (c : Copies)
     → bytes ≡ s .array → vs ≡ valuesOf t (s .slot) → us ≡ adjustmentsOf t (s .process) (s .slot)
-    → judged o at c ≡ walkFrom (operationsOf bytes) (record { values = vs; adjustments = us }) 0 → JudgedAs t s o c
+    → judged o at c ≡ walkFrom (operationsOf bytes) (record { values = vs; adjustments = us }) 0 → JudgedAs t s o at c
 unfolding look
 judged-as t s bytes vs us o at c eb ev eu e =
     let w = walked (copiesOf t s) (operationsOf (s .array)) o at c
     (e ∙ ap₂ (λ (l : List ℕ) (k : Copies). walkFrom (operationsOf l) k 0) eb (ap₂ (λ (v : List ℕ) (u : List ℤ). record { values = v; adjustments = u }) ev eu)) in
-    record { outcome = w .outcome; copies = w .done }
+    record { outcome = w .outcome; position = w .position; copies = w .done }
 
 -- the values of a slot in a lent row
 pub values-in : (h : List ℕ) (a : List ℤ) (slot : ℕ) → slot < slots → from 0 semaphores (row slot) (rowIn h values) ≡ valuesOf (tableIn (hostIn h a)) slot

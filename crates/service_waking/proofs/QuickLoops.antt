@@ -82,7 +82,7 @@ module _ (slot : ℕ) (x : Lent) (r : Ready x) (l₀ m₀ i l m : ℕ) (t : Quic
           }
 
       module _ (on : bitAnd m bit ≡ 0 → ⊥) (e : getD (x .host .row sleepsAt) (entry (getD (x .host .row order) i 0)) 0 ≡ slot)
-          {o : Outcome} {c : Copies} (j : JudgedAs (worldIn x .table) (getD (worldIn x .queue) i noSleeper) o c) where
+          {o : Outcome} {k : ℕ} {c : Copies} (j : JudgedAs (worldIn x .table) (getD (worldIn x .queue) i noSleeper) o k c) where
         marked-here : marked m (getD (worldIn x .queue) i noSleeper) ≡ true
         unfolding marked
         marked-here = ap not (ne-eqb _ 0 (λ z. on (ap (bitAnd m) bit-here ∙ z)))

@@ -1,5 +1,5 @@
 -- Settling an array: what is read of its sleeper, and that what is written is what it leaves.
-use Prim.Native.Nat.{ℕ, _+_, _<_}
+use Prim.Native.Nat.{ℕ, _+_, _%_, _<_}
 use native.Mathlib.Omega.{arith}
 use mathlib.Core.Path.{_≡_, refl, sym, ap, ap₂, subst, _∙_}
 use mathlib.Core.Bool.{true}
@@ -7,23 +7,25 @@ use mathlib.Core.List.{List}
 use lib.IntN.{ℤ, pos, natAbs}
 use lib.ListN.{length, getD, set}
 use Rattle.model.specs.declared.Copies.{Copies}
-use Rattle.model.specs.declared.Waking.{Waking}
+use Rattle.model.specs.declared.Position.{Position}
 use Rattle.model.specs.declared.Outcome.{Outcome}
 use Rattle.model.specs.declared.Outcome.the-variants.{Done, Sleep, Again, Range}
 use Rattle.model.specs.Limits.{semaphores, processes}
 use Rattle.model.specs.State.{Table, Sleeper, noSleeper, row}
 use Rattle.model.specs.Operation.{operationsOf}
-use Rattle.model.specs.Judge.{judged, codeOf, finishes}
+use Rattle.model.specs.Judge.{judged, codeOf, decidedAt, finishes}
 use Rattle.model.specs.Look.{after, valuesOf, adjustmentsOf}
 use Rattle.model.specs.Marks.{named}
 use Rattle.model.specs.Waking.{without, waking, finish}
 use Rattle.model.specs.Invariant.{Good, Fits}
+use Rattle.model.proofs.Positions.{position-small}
 use Rattle.host.specs.Parts.{Part, order, sleepsAt, names, Row}
 use Rattle.host.specs.Rows.{from, undoAt}
 use Rattle.host.specs.Holding.{Host, byProcess, theSlot, withQueue, withTable, entry, arrayIn, asleepIn, setsIn, queueIn, tableIn}
 use Rattle.host.specs.Queue.{QueueHeld}
 use Rattle.host.proofs.QueueRows.{order-at, kept-read, array-read-back}
 use Rattle.judging.specs.Walk.{walkFrom}
+use Rattle.wakings.specs.Wakings.{Place, placeOf}
 use Rattle.service_table.specs.Numbered.{Numbered}
 use Rattle.service_table.specs.Written.{tabled, withCopies}
 use Rattle.service_table.proofs.WrittenLaws.{sized-good, copies-applied}
@@ -73,7 +75,7 @@ module _ (x : Host) (at : ℕ) (k : Settleable x at) where
         eu ∙ ap₂ (λ (m n : ℕ). from (pos 0) semaphores (undoAt m n) (tableIn x .adjustments)) p-is s-is
         ∙ undo-read (tableIn x) (sleeper .process) (sleeper .slot) (k .good .adjustments) (k .fits .process) (k .fits .last) (k .fits .slot)
 
-    pub looked : JudgedAs (tableIn x) (getD (queueIn (x .row)) at noSleeper) o c
+    pub looked : JudgedAs (tableIn x) (getD (queueIn (x .row)) at noSleeper) o i c
     looked = judged-as (tableIn x) sleeper bytes values undo o i c b-is v-is u-is e
 
   -- done: the copies are written
@@ -128,20 +130,22 @@ module _ (x : Lent) (r : Ready x) (at : ℕ) (there : at < length (worldIn x .qu
   pub finish-there : at < length (queueIn (h₁ .row))
   finish-there = subst (λ (q : List Sleeper). at < length q) (world-queue x ∙ sym queue-there) there
 
-  pub finish-all : JudgedAs (worldIn x .table) (getD (worldIn x .queue) at noSleeper) o c → finishes o ≡ true
-      → {process code : ℕ} {r₂ : Row} {ws : List Waking} → process ≡ getD (x .host .row order) at 0 → r₂ ≡ withQueue (h₁ .row) (without (queueIn (h₁ .row)) at) → code ≡ natAbs (codeOf o)
-      → ws ≡ set (x .wakings) (x .woken) (waking process (pos code))
+  pub finish-all : {i : ℕ} → JudgedAs (worldIn x .table) (getD (worldIn x .queue) at noSleeper) o i c → finishes o ≡ true
+      → {process code : ℕ} {position : Position} {r₂ : Row} {ws : List Place} → process ≡ getD (x .host .row order) at 0 → r₂ ≡ withQueue (h₁ .row) (without (queueIn (h₁ .row)) at) → code ≡ natAbs (codeOf o)
+      → position ≡ decidedAt o (i % 256) → ws ≡ set (x .wakings) (x .woken) (placeOf (waking process (pos code) position))
       → record { host = record { row = r₂; adjustments = h₁ .adjustments }; wakings = ws; woken = x .woken + 1 } ≡ lentWith x (finish (worldIn x) at)
   unfolding worldIn
-  finish-all j f {process} {code} ep er ec ew =
+  finish-all {i} j f {process} {code} {position} ep er ec ed ew =
       let h : at < asleepIn (x .host .row) = omega (arith, there, asleep-all x r) in
-      finish-lent x r at h o c j _ (ap pos ec ∙ ending-is o f)
+      let n : i % 256 ≡ i = omega (arith, j .position, position-small (worldIn x .table) _ (the-fit x r at h)) in
+      finish-lent x r at h o i c j _ (ap pos ec ∙ ending-is o f) (ed ∙ ap (decidedAt o) n)
       (er ∙ ap₂ (λ (a : Row) (q : List Sleeper). withQueue a (without q at)) row-there queue-there)
       (ap (λ (y : Host). y .adjustments) e₁)
-      (ew ∙ ap (λ (p : ℕ). set (x .wakings) (x .woken) (waking p (pos code))) ep)
+      (ew ∙ ap (λ (p : ℕ). set (x .wakings) (x .woken) (placeOf (waking p (pos code) position))) ep)
       refl
 
 -- a look at what is lent is a look at its world
-pub judged-in : (x : Lent) (at : ℕ) {o : Outcome} {c : Copies} → JudgedAs (tableIn (x .host)) (getD (queueIn (x .host .row)) at noSleeper) o c → JudgedAs (worldIn x .table) (getD (worldIn x .queue) at noSleeper) o c
+pub judged-in : (x : Lent) (at : ℕ) {o : Outcome} {i : ℕ} {c : Copies} → JudgedAs (tableIn (x .host)) (getD (queueIn (x .host .row)) at noSleeper) o i c
+    → JudgedAs (worldIn x .table) (getD (worldIn x .queue) at noSleeper) o i c
 unfolding worldIn
 judged-in x at j = j

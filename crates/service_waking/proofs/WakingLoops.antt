@@ -43,7 +43,7 @@ module _ (x : Lent) (r : Ready x) (slot i : ℕ) (h : i < asleepIn (x .host .row
   unfolding mine
   other-here n = ne-eqb _ _ (λ e. n (the-slot x r i h ∙ e))
 
-  pub ends-here : {o : Outcome} {c : Copies} {b : Bool} → JudgedAs (worldIn x .table) (getD (worldIn x .queue) i noSleeper) o c → finishes o ≡ b
+  pub ends-here : {o : Outcome} {k : ℕ} {c : Copies} {b : Bool} → JudgedAs (worldIn x .table) (getD (worldIn x .queue) i noSleeper) o k c → finishes o ≡ b
       → couldFinish (worldIn x .table) (getD (worldIn x .queue) i noSleeper) ≡ b
   ends-here j f = ap finishes (sym (j .outcome)) ∙ f
 
@@ -95,7 +95,7 @@ module _ (slot : ℕ) (x : Lent) (r : Ready x) (l₀ i l : ℕ) (t : PlainTurn s
       round = sym (plain-other (worldIn x .table) slot (worldIn x .queue) i l 0 (within x r i h) (other-here x r slot i h n)) ∙ t .round;
     }
 
-    module _ (e : getD (x .host .row sleepsAt) (entry (getD (x .host .row order) i 0)) 0 ≡ slot) {o : Outcome} {c : Copies} (j : JudgedAs (worldIn x .table) (getD (worldIn x .queue) i noSleeper) o c) where
+    module _ (e : getD (x .host .row sleepsAt) (entry (getD (x .host .row order) i 0)) 0 ≡ slot) {o : Outcome} {k : ℕ} {c : Copies} (j : JudgedAs (worldIn x .table) (getD (worldIn x .queue) i noSleeper) o k c) where
       pub plain-goes-on : finishes o ≡ false → PlainTurn slot x l₀ (i + 1) (l + 1)
       plain-goes-on f = record {
         within = omega (arith, h);

@@ -3,12 +3,11 @@ use Prim.Native.Nat.{ℕ, _≤_, _<_}
 use mathlib.Core.Path.{_≡_}
 use mathlib.Core.Bool.{true}
 use mathlib.Core.List.{List, []}
-use lib.ListN.{length, take, getD}
+use lib.ListN.{length, getD}
 use lib.IntN.{ℤ}
 use Rattle.model.specs.declared.Engine.{Engine}
 use Rattle.model.specs.declared.Outcome.{Outcome}
 use Rattle.model.specs.declared.Outcome.the-variants.{Done}
-use Rattle.model.specs.declared.Waking.{Waking}
 use Rattle.model.specs.declared.Copies.{Copies}
 use Rattle.model.specs.Limits.{semaphores}
 use Rattle.model.specs.State.{Table, Sleeper, noSleeper}
@@ -19,22 +18,22 @@ use Rattle.model.specs.Events.{world, treatFrom}
 use Rattle.model.specs.Invariant.{Good, Fits, Calm, countAt}
 use Rattle.host.specs.Holding.{Host, hostIn, hostWith, setsIn, tableIn, queueIn}
 use Rattle.host.specs.Queue.{QueueHeld}
-use Rattle.wakings.specs.Wakings.{wakingsIn, listOf}
+use Rattle.wakings.specs.Wakings.{Place, placesIn, listOf, wakingsIn}
 use Rattle.service_table.specs.Numbered.{Numbered}
 use Rattle.service_waking.specs.declared.Tally.{Tally}
 
 -- the host, the list of wakings, and how many of it are filled
 pub record Lent : Type 0 where
   pub host : Host
-  pub wakings : List Waking
+  pub wakings : List Place
   pub woken : ℕ
 
 abbrev pub lentIn : List ℕ → List ℤ → List ℕ → ℕ → Lent
-lentIn h adjustments list woken = record { host = hostIn h adjustments; wakings = wakingsIn list; woken = woken }
+lentIn h adjustments list woken = record { host = hostIn h adjustments; wakings = placesIn list; woken = woken }
 
 -- the world that it holds
 unfoldable pub worldIn : Lent → World
-worldIn x = record { table = tableIn (x .host); queue = queueIn (x .host .row); wakings = take (x .woken) (x .wakings) }
+worldIn x = record { table = tableIn (x .host); queue = queueIn (x .host .row); wakings = wakingsIn (x .woken) (x .wakings) }
 
 -- .. with another world in it; the sets stay
 unfoldable pub lentWith : Lent → World → Lent
@@ -61,9 +60,10 @@ pub record Ready (x : Lent) : Type 0 where
   pub holds : x ≡ lentWith x (worldIn x)
   pub calm : Calm (setsIn (x .host .row)) (worldIn x)
 
--- how an array was judged: its outcome, and if it is done the copies as it leaves them
-pub record JudgedAs (t : Table) (s : Sleeper) (o : Outcome) (c : Copies) : Type 0 where
+-- how an array was judged: its outcome, the position where judging ended, and if it is done the copies as it leaves them
+pub record JudgedAs (t : Table) (s : Sleeper) (o : Outcome) (i : ℕ) (c : Copies) : Type 0 where
   pub outcome : o ≡ look t s .outcome
+  pub position : i ≡ look t s .position
   pub copies : o ≡ Done → c ≡ look t s .copies
 
 -- what settling the array of the sleeper at a position asks: it is there, as the checks left it
@@ -75,11 +75,11 @@ pub record Settleable (x : Host) (at : ℕ) : Type 0 where
   pub good : Good (tableIn x)
 
 -- what finishing the sleeper at a position asks: it is there, and was judged so that it is finished
-pub record Finishable (x : Lent) (at : ℕ) (o : Outcome) (c : Copies) : Type 0 where
+pub record Finishable (x : Lent) (at : ℕ) (o : Outcome) (i : ℕ) (c : Copies) : Type 0 where
   pub ready : Ready x
   pub there : at < length (worldIn x .queue)
   pub finished : finishes o ≡ true
-  pub judged : JudgedAs (worldIn x .table) (getD (worldIn x .queue) at noSleeper) o c
+  pub judged : JudgedAs (worldIn x .table) (getD (worldIn x .queue) at noSleeper) o i c
 
 -- what each rule leaves, for a slot and the looks so far; the quick rule begins with marks
 abbrev pub plainly : ℕ → Lent → ℕ → Left

@@ -28,6 +28,7 @@ use host::set_at;
 use host::slot_at;
 use host::slot_byte;
 use host::values_of;
+use judging::decided;
 use judging::finishes;
 use judging::judge;
 use model::ALL_ADJUSTMENTS;
@@ -68,18 +69,20 @@ fn ending(outcome: Outcome) -> u8
     }
 }
 
-// What a look told: the copies of the values and of the adjustments as the operations leave them, and the outcome. The copies
-// stand first: behind the one byte of an outcome they would be read across words, which takes longer.
+// What a look told: the copies of the values and of the adjustments as the operations leave them, the position where judging
+// ended, and the outcome. The copies stand first: behind the one byte of an outcome they would be read across words, which takes
+// longer.
 struct Looked {
     pub values: [u16; SEMAPHORES],
     pub undo: [i16; SEMAPHORES],
+    pub position: usize,
     pub outcome: Outcome,
 }
 
 // A look at the sleeper at a position: its array judged on the present state.
 fn look(host: &[u8; HOST_BYTES], adjustments: &[i16; ALL_ADJUSTMENTS], at: usize) -> Looked
     requires { ⌜ Settleable (hostIn (now host) (now adjustments)) at ⌝ }
-    ensures { λ r. ⌜ JudgedAs (tableIn (hostIn (now (host .entry)) (now (adjustments .entry)))) (getD (queueIn (rowIn (now (host .entry)))) at noSleeper) (r .outcome) (record { values = r .values; adjustments = r .undo }) ⌝ }
+    ensures { λ r. ⌜ JudgedAs (tableIn (hostIn (now (host .entry)) (now (adjustments .entry)))) (getD (queueIn (rowIn (now (host .entry)))) at noSleeper) (r .outcome) (r .position) (record { values = r .values; adjustments = r .undo }) ⌝ }
 {
     let process = process_at(host, at);
     let slot = slot_at(host, process);
@@ -90,6 +93,7 @@ fn look(host: &[u8; HOST_BYTES], adjustments: &[i16; ALL_ADJUSTMENTS], at: usize
     Looked {
         values: values,
         undo: undo,
+        position: verdict.position,
         outcome: outcome,
     }
 }
@@ -126,7 +130,7 @@ fn finish(
     at: usize,
     looked: Looked,
 )
-    requires { ⌜ Finishable (lentIn (now host) (now adjustments) (now wakings) woken) at (looked .outcome) (record { values = looked .values; adjustments = looked .undo }) ⌝ }
+    requires { ⌜ Finishable (lentIn (now host) (now adjustments) (now wakings) woken) at (looked .outcome) (looked .position) (record { values = looked .values; adjustments = looked .undo }) ⌝ }
     ensures { λ _. ⌜ lentIn (now (host .exit)) (now (adjustments .exit)) (now (wakings .exit)) (woken + 1) ≡ lentWith (lentIn (now (host .entry)) (now (adjustments .entry)) (now (wakings .entry)) woken) (finished (worldIn (lentIn (now (host .entry)) (now (adjustments .entry)) (now (wakings .entry)) woken)) at) ⌝ }
 {
     let process = process_at(&*host, at);
@@ -135,7 +139,8 @@ fn finish(
     let undo = looked.undo;
     settle(&mut *host, adjustments, at, outcome, values, undo);
     take_out(host, at);
-    note(wakings, woken, process, ending(outcome));
+    let position = decided(outcome, looked.position);
+    note(wakings, woken, process, ending(outcome), position);
 }
 
 // "at the first that is finished, take it out and begin again at the oldest": the round is left from inside its judging

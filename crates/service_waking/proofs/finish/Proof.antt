@@ -17,6 +17,9 @@ take-out-requires c κs =
     let x = lentIn (a .args .host .now) (a .args .adjustments .now) (a .args .wakings .now) (a .args .woken) in
     (finish-row x (a .pre .ready) (a .args .at) (a .pre .there) _ _ (c .before .settle .ensures), finish-there x (a .pre .ready) (a .args .at) (a .pre .there) _ _ (c .before .settle .ensures))
 
+decided-requires : tie.Need-decided-requires
+decided-requires c κs = search needs
+
 ending-requires : tie.Need-ending-requires
 ending-requires c κs = search needs
 
@@ -25,10 +28,10 @@ note-requires c κs = search needs
 
 returns : tie.Need-returns
 returns c =
-    let a = c .before .before .before .before .before .before .before .before .before .before .before .before in
+    let a = c .before .before .before .before .before .before .before .before .before .before .before .before .before in
     let x = lentIn (a .args .host .now) (a .args .adjustments .now) (a .args .wakings .now) (a .args .woken) in
-    finish-all x (a .pre .ready) (a .args .at) (a .pre .there) _ _ (c .before .before .before .before .before .settle .ensures) (a .pre .judged) (a .pre .finished)
-    (c .before .before .before .before .before .before .before .before .before .before .process-at .ensures) (c .before .before .before .take-out .ensures) (c .before .ending .ensures) (c .note .ensures)
+    finish-all x (a .pre .ready) (a .args .at) (a .pre .there) _ _ (c .before .before .before .before .before .before .settle .ensures) (a .pre .judged) (a .pre .finished)
+    (c .before .before .before .before .before .before .before .before .before .before .before .process-at .ensures) (c .before .before .before .before .take-out .ensures) (c .before .ending .ensures) (c .before .before .before .decided .ensures) (c .note .ensures)
 
 pub finish-spec : {M : Type 1} → statement M
 finish-spec =
@@ -37,6 +40,7 @@ finish-spec =
     process-at-requires
     settle-requires
     take-out-requires
+    decided-requires
     ending-requires
     note-requires
     returns)

@@ -78,7 +78,7 @@ look-requires c κs =
     rw (l .inv .0, l .inv .1) (settleable (lent d) (o .inv .0 .ready) (l .i) (within (lent d) (o .inv .0 .ready) (l .i) (there d)))
 
 judged : (c : tie.After-look Inv-loop μ-loop Inv-rounds μ-rounds) → let d = c .before .before .before .before in
-    JudgedAs (worldIn (lent d) .table) (getD (worldIn (lent d) .queue) (d .before .before .before .before .before .loop .i) noSleeper) (c .look .result .outcome) (record { values = c .look .result .values; adjustments = c .look .result .undo })
+    JudgedAs (worldIn (lent d) .table) (getD (worldIn (lent d) .queue) (d .before .before .before .before .before .loop .i) noSleeper) (c .look .result .outcome) (c .look .result .position) (record { values = c .look .result .values; adjustments = c .look .result .undo })
 judged c =
     let d = c .before .before .before .before in
     let l = d .before .before .before .before .before .loop in

@@ -138,13 +138,13 @@ look-requires c κs =
     subst⁻¹ (λ (y : Lent). Settleable (y .host) (t .loop .i)) (same t) (settleable (lent t) r (t .loop .i) (within (lent t) r (t .loop .i) (there d)))
 
 -- how an array was judged on what is lent
-looked-at : (t : tie.At-loop Inv-loop μ-loop Inv-rounds μ-rounds) {o : Outcome} {k : Copies}
-    → JudgedAs (tableIn (hostIn (t .loop .host) (t .loop .adjustments))) (getD (queueIn (rowIn (t .loop .host))) (t .loop .i) noSleeper) o k
-    → JudgedAs (worldIn (lent t) .table) (getD (worldIn (lent t) .queue) (t .loop .i) noSleeper) o k
-looked-at t {o} {k} j = judged-in (lent t) (t .loop .i) (subst (λ (y : Lent). JudgedAs (tableIn (y .host)) (getD (queueIn (y .host .row)) (t .loop .i) noSleeper) o k) (same t) j)
+looked-at : (t : tie.At-loop Inv-loop μ-loop Inv-rounds μ-rounds) {o : Outcome} {n : ℕ} {k : Copies}
+    → JudgedAs (tableIn (hostIn (t .loop .host) (t .loop .adjustments))) (getD (queueIn (rowIn (t .loop .host))) (t .loop .i) noSleeper) o n k
+    → JudgedAs (worldIn (lent t) .table) (getD (worldIn (lent t) .queue) (t .loop .i) noSleeper) o n k
+looked-at t {o} {n} {k} j = judged-in (lent t) (t .loop .i) (subst (λ (y : Lent). JudgedAs (tableIn (y .host)) (getD (queueIn (y .host .row)) (t .loop .i) noSleeper) o n k) (same t) j)
 
 judged : (c : tie.After-look Inv-loop μ-loop Inv-rounds μ-rounds) → let t = turn (of-slot (of-look c) .before) in
-    JudgedAs (worldIn (lent t) .table) (getD (worldIn (lent t) .queue) (t .loop .i) noSleeper) (c .look .result .outcome) (record { values = c .look .result .values; adjustments = c .look .result .undo })
+    JudgedAs (worldIn (lent t) .table) (getD (worldIn (lent t) .queue) (t .loop .i) noSleeper) (c .look .result .outcome) (c .look .result .position) (record { values = c .look .result .values; adjustments = c .look .result .undo })
 judged c = let t = turn (of-slot (of-look c) .before) in looked-at t (c .look .ensures)
 
 finish-requires : tie.Need-finish-requires Inv-loop μ-loop Inv-rounds μ-rounds
@@ -153,7 +153,7 @@ finish-requires c κs =
     let d = of-slot (of-look e) .before in
     let t = turn d in
     let r = round t .rounds .inv .0 .ready in
-    subst⁻¹ (λ (y : Lent). Finishable y (t .loop .i) (e .look .result .outcome) (record { values = e .look .result .values; adjustments = e .look .result .undo })) (same t)
+    subst⁻¹ (λ (y : Lent). Finishable y (t .loop .i) (e .look .result .outcome) (e .look .result .position) (record { values = e .look .result .values; adjustments = e .look .result .undo })) (same t)
     (record {
       ready = r;
       there = within (lent t) r (t .loop .i) (there d);
