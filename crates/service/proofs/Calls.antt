@@ -16,7 +16,7 @@ use Rattle.model.proofs.Engines.{event-agrees, reached, engines-agree}
 use Rattle.host.specs.Holding.{Host, hostOf, stateIn, Held}
 use Rattle.host.proofs.HeldLaws.{state-back, held-fresh, held-next}
 use Rattle.wakings.specs.Wakings.{listOf}
-use Rattle.service.specs.After.{telling, toldOf, showing, queriedOf, Replied, tells, repliedOf}
+use Rattle.service.specs.After.{tellingAt, toldOf, showing, queriedOf, Replied, tells, repliedOf}
 use Rattle.service.specs.Calls.{Call, creates, operates, setsValue, removes, signals, exits, queries, runs, Called, noCall, andCall, lastHost, repliesOf, CallsAlike, CallsAgree}
 use Rattle.service.proofs.ReplyLaws.{seen}
 
@@ -81,7 +81,7 @@ replies-alike e a b g = go (isQuery e)
         record {
           host = ap hostOf (g .state);
           wakings = ap listOf (g .alike .wakings);
-          reply = ap₂ (λ (w : Answer) (l : List Waking). reply.Told (telling (w .code) (w .value) 0 (length l))) (g .alike .answer) (g .alike .wakings);
+          reply = ap₂ (λ (w : Answer) (l : List Waking). reply.Told (tellingAt (w .code) (w .position) (w .value) 0 (length l))) (g .alike .answer) (g .alike .wakings);
           fewer = g .alike .fewer;
           bounded = g .alike .bounded;
         }

@@ -7,7 +7,6 @@ use lib.IntN.{pos}
 use lib.ListN.{length}
 use Rattle.model.specs.declared.Engine.{Engine}
 use Rattle.model.specs.declared.Told.{Told}
-use Rattle.model.specs.declared.Waking.{Waking}
 use Rattle.model.specs.Limits.{semaphores, processes}
 use Rattle.model.specs.State.{Table, Sleeper, State}
 use Rattle.model.specs.Waking.{World, Ended, waker}
@@ -22,7 +21,7 @@ use Rattle.host.specs.Holding.{Host, withTable, hostOf, hostWith, setsIn, queue
 use Rattle.host.specs.Queue.{Queued, QueueHeld}
 use Rattle.host.proofs.PartLaws.{setParts, queueParts, by-groups}
 use Rattle.host.proofs.QueueRows.{queued}
-use Rattle.wakings.specs.Wakings.{listOf}
+use Rattle.wakings.specs.Wakings.{Place, listOf}
 use Rattle.service_table.specs.Written.{tabled}
 use Rattle.service_queue.specs.Seated.{Seated}
 use Rattle.service_waking.specs.declared.Tally.{Tally}
@@ -67,21 +66,21 @@ module _ (x : Host) (k : Held x) where
       (ap (λ (r : Row). withTable r t) (held-row .holds) ∙ table-under (x .row) t (queueIn (x .row)))
 
   -- .. as a waking is lent it
-  pub poised-lent : (t : Table) {y : Host} {l : List Waking} → y ≡ tabled x t → l ≡ listOf [] → record { host = y; wakings = l; woken = 0 } ≡ unwoken x t (queueIn (x .row))
-  poised-lent t ey el = ap₂ (λ (h : Host) (w : List Waking). record { host = h; wakings = w; woken = 0 }) (ey ∙ tabled-with t) el
+  pub poised-lent : (t : Table) {y : Host} {l : List Place} → y ≡ tabled x t → l ≡ listOf [] → record { host = y; wakings = l; woken = 0 } ≡ unwoken x t (queueIn (x .row))
+  poised-lent t ey el = ap₂ (λ (h : Host) (w : List Place). record { host = h; wakings = w; woken = 0 }) (ey ∙ tabled-with t) el
 
   -- ---- answers
 
   -- "A refused event returns its code, value 0, no looks and no wakings; the state is unchanged."
-  pub after-refused : (code : ℕ) (does : Result) {told : Told} {wakings : List Waking} → (code ≡ 0 → ⊥) → wakings ≡ listOf [] → told ≡ telling (pos code) 0 0 0
+  pub after-refused : (code : ℕ) (does : Result) {told : Told} {wakings : List Place} → (code ≡ 0 → ⊥) → wakings ≡ listOf [] → told ≡ telling (pos code) 0 0 0
       → record { host = x; wakings = wakings; told = told } ≡ afterOf (checked code (stateIn x) does)
   after-refused zero does n ew et = absurd (n refl)
   after-refused (suc code) does {told} {wakings} n ew et =
-      ap₂ (λ (l : List Waking) (u : Told). record { host = x; wakings = l; told = u }) ew et
+      ap₂ (λ (l : List Place) (u : Told). record { host = x; wakings = l; told = u }) ew et
       ∙ ap (λ (y : Host). record { host = y; wakings = listOf []; told = telling (pos (suc code)) 0 0 0 }) (k .holds)
 
   -- .. with the code that the checks found
-  pub refused-after : {found code : ℕ} (does : Result) {told : Told} {wakings : List Waking} → found ≡ code → (found ≡ 0 → ⊥) → wakings ≡ listOf [] → told ≡ telling (pos found) 0 0 0
+  pub refused-after : {found code : ℕ} (does : Result) {told : Told} {wakings : List Place} → found ≡ code → (found ≡ 0 → ⊥) → wakings ≡ listOf [] → told ≡ telling (pos found) 0 0 0
       → record { host = x; wakings = wakings; told = told } ≡ afterOf (checked code (stateIn x) does)
   refused-after {found} {code} does e n ew et = after-refused code does (λ z. n (e ∙ z)) ew (et ∙ ap (λ (c : ℕ). telling (pos c) 0 0 0) e)
 
@@ -127,7 +126,7 @@ pub goes-on : {code : ℕ} (s : State) (does : Result) → code ≡ 0 → does �
 goes-on s does e = rw e
 
 -- a waking that begins with nobody looked at
-module _ {h : Host} {ws : List Waking} {u : Lent} {t : Tally} (n : (t .looks ≡ 0) × (t .woken ≡ 0)) (e : record { host = h; wakings = ws; woken = 0 } ≡ u) where
+module _ {h : Host} {ws : List Place} {u : Lent} {t : Tally} (n : (t .looks ≡ 0) × (t .woken ≡ 0)) (e : record { host = h; wakings = ws; woken = 0 } ≡ u) where
   lent-so : record { host = h; wakings = ws; woken = t .woken } ≡ u
   lent-so = ap (λ (w : ℕ). record { host = h; wakings = ws; woken = w }) (n .1) ∙ e
 

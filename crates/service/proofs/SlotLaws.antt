@@ -18,7 +18,7 @@ use Rattle.host.specs.Holding.{Host, withQueue, withTable, hostOf, setAt, withS
 use Rattle.host.specs.Queue.{Queued, QueueHeld}
 use Rattle.host.proofs.PartLaws.{setParts, queueParts, by-groups}
 use Rattle.host.proofs.SetRows.{set-in}
-use Rattle.wakings.specs.Wakings.{listOf}
+use Rattle.wakings.specs.Wakings.{Place, listOf}
 use Rattle.service_table.specs.Written.{tabled}
 use Rattle.service.specs.After.{telling, afterOf}
 use Rattle.service.proofs.EventLaws.{held-row, held-queued, goes-on}
@@ -54,7 +54,7 @@ module _ (x : Host) (k : Held x) (count read alter : ℕ) (z : checkCreate (stat
   pub create-slot : freeSlot (setsIn (x .row)) < slots
   create-slot = create-passes (stateIn x) count z .slot
 
-  pub created : {slot value g : ℕ} {r : Row} {y : Host} {l : List Waking} {told : Told} → slot ≡ freeSlot (setsIn (x .row)) → g ≡ setAt (x .row) slot .generation
+  pub created : {slot value g : ℕ} {r : Row} {y : Host} {l : List Place} {told : Told} → slot ≡ freeSlot (setsIn (x .row)) → g ≡ setAt (x .row) slot .generation
       → r ≡ withSet (x .row) slot (record { generation = g; count = count; read = read; alter = alter })
       → y ≡ tabled (record { row = r; adjustments = x .adjustments }) (cleared (tableIn (record { row = r; adjustments = x .adjustments })) slot)
       → l ≡ listOf [] → value ≡ slot + slots * g → told ≡ telling (pos 0) value 0 0
@@ -68,7 +68,7 @@ module _ (x : Host) (k : Held x) (count read alter : ℕ) (z : checkCreate (stat
       ey ∙ ap (λ (a : Row). tabled (record { row = a; adjustments = x .adjustments }) (cleared (tableIn (record { row = a; adjustments = x .adjustments })) slot)) er
       ∙ ap (λ (a : Row). record { row = a; adjustments = c .adjustments }) (row-kept x k slot s c (queueIn (x .row)))
       ∙ set-host x k slot s c (queueIn (x .row)) in
-      ap₂ (λ (a : Host) (w : List Waking). record { host = a; wakings = w; told = told }) h el
+      ap₂ (λ (a : Host) (w : List Place). record { host = a; wakings = w; told = told }) h el
       ∙ ap (λ (u : Told). record { host = hostOf (record { sets = set (setsIn (x .row)) slot s; table = c; queue = queueIn (x .row) }); wakings = listOf []; told = u }) (et ∙ ap (λ (v : ℕ). telling (pos 0) v 0 0) ev)
       ∙ rw (old, es) (ap afterOf (goes-on (stateIn x) _ z))
 
@@ -98,7 +98,7 @@ module _ (x : Host) (k : Held x) (i : ℤ) (z : checkSet (stateIn x) i ≡ 0) wh
           fits = subst Queued (sym queue-there) (held-queued x k);
         }
 
-    pub removed : {r′ : Row} {l : List Waking} {woken : ℕ} {told : Told} → r′ ≡ withQueue (y .row) (keep (notMine slot) (queueIn (y .row)))
+    pub removed : {r′ : Row} {l : List Place} {woken : ℕ} {told : Told} → r′ ≡ withQueue (y .row) (keep (notMine slot) (queueIn (y .row)))
         → l ≡ listOf (endedWith (pos 43) (mine slot) (queueIn (y .row))) → woken ≡ length (endedWith (pos 43) (mine slot) (queueIn (y .row))) → told ≡ telling (pos 0) 0 0 woken
         → record { host = record { row = r′; adjustments = y .adjustments }; wakings = l; told = told } ≡ afterOf (doRemove (stateIn x) i)
     unfolding doRemove
@@ -110,6 +110,6 @@ module _ (x : Host) (k : Held x) (i : ℤ) (z : checkSet (stateIn x) i ≡ 0) wh
         ap₂ (λ (a : Row) (b : List ℤ). record { row = a; adjustments = b }) (ek ∙ ap₂ (λ (a : Host) (b : List Sleeper). withQueue (a .row) (keep (notMine slot) b)) there queue-there) (ap (λ (a : Host). a .adjustments) there)
         ∙ set-host x k slot (freeSet g) (cleared (tableIn x) slot) q in
         let u : told ≡ telling (pos 0) 0 0 (length w) = et ∙ ap (λ (n : ℕ). telling (pos 0) 0 0 n) (en ∙ ap (λ (a : List Sleeper). length (endedWith (pos 43) (mine slot) a)) queue-there) in
-        ap₂ (λ (a : Host) (b : List Waking). record { host = a; wakings = b; told = told }) h (el ∙ ap (λ (a : List Sleeper). listOf (endedWith (pos 43) (mine slot) a)) queue-there)
+        ap₂ (λ (a : Host) (b : List Place). record { host = a; wakings = b; told = told }) h (el ∙ ap (λ (a : List Sleeper). listOf (endedWith (pos 43) (mine slot) a)) queue-there)
         ∙ ap (λ (v : Told). record { host = hostOf (record { sets = set (setsIn (x .row)) slot (freeSet g); table = cleared (tableIn x) slot; queue = q }); wakings = listOf w; told = v }) u
         ∙ rw (old, es) (ap afterOf (goes-on (stateIn x) _ z))

@@ -14,7 +14,7 @@ use Rattle.model.specs.Waking.{waker}
 use Rattle.model.specs.Events.{Event, create, operate, setValue, remove, signal, exit, query, eventOf, Result, event, doCreate, doOperate, doSetValue, doRemove, doSignal, doExit, doQuery}
 use Rattle.model.specs.Runs.{run, All, Pairwise, Stuck}
 use Rattle.host.specs.Holding.{Host, hostOf, stateIn}
-use Rattle.service.specs.After.{After, telling, afterOf, queriedOf, Replied, tells, shows, repliedOf}
+use Rattle.service.specs.After.{After, tellingAt, afterOf, queriedOf, Replied, tells, shows, repliedOf}
 
 -- One call on a host, the event that it is, and what it leaves and returns. Each case is the promise of one function: y, or q, is
 -- what stands in what was lent and returned (its promise's left side).
@@ -50,7 +50,7 @@ looksOf (reply.Told t) = t .looks
 looksOf (reply.Seen q) = q .looks
 
 abbrev pub withoutLooks : Reply → Reply
-withoutLooks (reply.Told t) = reply.Told (telling (t .code) (t .value) 0 (t .woken))
+withoutLooks (reply.Told t) = reply.Told (tellingAt (t .code) (t .position) (t .value) 0 (t .woken))
 withoutLooks (reply.Seen q) =
     reply.Seen
     (record {

@@ -1,8 +1,13 @@
 // The seven events, each in its own file, and what they tell.
 ghost use mathlib.Core.Path.{_≡_};
+ghost use Prim.Native.Nat.{_%_};
 ghost use lib.IntN.{pos};
-ghost use Rattle.service.specs.After.{telling};
+ghost use Rattle.model.specs.Judge.{decidedAt};
+ghost use Rattle.service.specs.After.{tellingAt, telling};
 use judging::answer;
+use judging::decided;
+use model::Outcome;
+use model::Position;
 use model::Told;
 use service_waking::Tally;
 
@@ -23,6 +28,20 @@ fn quiet(code: u8, value: u32) -> Told
         value: value,
         looks: 0,
         woken: 0,
+        position: Position::Nowhere,
+    }
+}
+
+// What an operate tells whose array is not done: its code, and the operation that decided.
+fn not_done(code: i32, outcome: Outcome, position: usize) -> Told
+    ensures { λ r. ⌜ r ≡ tellingAt code (decidedAt outcome (position % 256)) 0 0 0 ⌝ }
+{
+    Told {
+        code: code,
+        value: 0,
+        looks: 0,
+        woken: 0,
+        position: decided(outcome, position),
     }
 }
 
@@ -35,6 +54,7 @@ fn told(tally: Tally) -> Told
         value: 0,
         looks: tally.looks,
         woken: tally.woken,
+        position: Position::Nowhere,
     }
 }
 

@@ -5,6 +5,7 @@ ghost use Rattle.model.specs.Events.{doOperate};
 ghost use Rattle.host.specs.Holding.{Held, hostIn, stateIn};
 ghost use Rattle.service.specs.After.{afterIn, afterOf};
 use crate::events::nobody;
+use crate::events::not_done;
 use crate::events::quiet;
 use crate::events::told;
 use host::HOST_BYTES;
@@ -25,7 +26,8 @@ use service_table::differing_mask;
 use service_waking::wake;
 use wakings::clear;
 
-// The array is judged on a copy: done, the copy becomes the state and the set is treated; else it sleeps, or is refused.
+// The array is judged on a copy: done, the copy becomes the state and the set is treated; else it sleeps, or is refused, and the
+// operation that decided is told.
 pub fn operate(
     host: &mut [u8; HOST_BYTES],
     adjustments: &mut [i16; ALL_ADJUSTMENTS],
@@ -66,14 +68,9 @@ pub fn operate(
         }
         Outcome::Sleep => {
             fall_asleep(host, process, slot, bytes);
-            Told {
-                code: -1,
-                value: 0,
-                looks: 0,
-                woken: 0,
-            }
+            not_done(-1, outcome, verdict.position)
         }
-        Outcome::Again => quiet(11, 0),
-        Outcome::Range => quiet(34, 0),
+        Outcome::Again => not_done(11, outcome, verdict.position),
+        Outcome::Range => not_done(34, outcome, verdict.position),
     }
 }

@@ -7,6 +7,7 @@ use crate::events::quiet;
 use crate::events::told;
 use host::HOST_BYTES;
 use model::ALL_ADJUSTMENTS;
+use model::Position;
 use model::Told;
 use model::WAKING_BYTES;
 use service_checks::check_process;
@@ -32,6 +33,6 @@ pub fn signal(
     if !leave(host, process) {
         return quiet(0, 0);
     }
-    note(wakings, 0, process, 4);
+    note(wakings, 0, process, 4, Position::Nowhere);
     told(Tally { looks: 0, woken: 1 })
 }

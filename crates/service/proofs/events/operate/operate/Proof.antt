@@ -56,7 +56,7 @@ undo-are c =
 left : tie.After-judge → Copies
 left c = record { values = c .judge .last .0; adjustments = c .judge .last .1 .0 }
 
-judged : (c : tie.After-judge) → let s = c .before .before .before .before .before .before .before .before .before .before .before .before .before .before in JudgedAs (tableIn (x s)) (call (s .args .process) (s .args .identifier) (s .args .bytes .now)) (c .judge .result .outcome) (record { values = c .judge .last .0; adjustments = c .judge .last .1 .0 })
+judged : (c : tie.After-judge) → let s = c .before .before .before .before .before .before .before .before .before .before .before .before .before .before in JudgedAs (tableIn (x s)) (call (s .args .process) (s .args .identifier) (s .args .bytes .now)) (c .judge .result .outcome) (c .judge .result .position) (record { values = c .judge .last .0; adjustments = c .judge .last .1 .0 })
 judged c = let s = c .before .before .before .before .before .before .before .before .before .before .before .before .before .before in judged-as (tableIn (x s)) (call (s .args .process) (s .args .identifier) (s .args .bytes .now)) _ _ _ _ _ _ refl (values-are (c .before .before .before .before .before)) (undo-are (c .before .before .before)) (c .judge .ensures)
 
 sizes : (c : tie.After-judge) → (length (c .judge .last .0) ≡ semaphores) × (length (c .judge .last .1 .0) ≡ semaphores)
@@ -124,8 +124,8 @@ wake-requires c κs =
     let z = none (c .before .before .before .before .before .before .before .before .before .before .before .before .before .before .before .before .before .before .before) in
     let j = judged (c .before .before .before .before .before .before .before .before .before .before .before) in
     let e = c .before .before .before .before .before .before .before .before .before .enum-told .given .1 in
-    let lent = done-lent (x s) (s .pre) _ _ _ z (s .args .engine) _ _ j e (table (c .before .before .before .before .before)) (c .before .before .before .before .before .before .before .before .before .before .before .before .before .before .before .before .before .before .before .before .before .before .clear .ensures) in
-    (slot-is (c .before .before .before .before .before .before .before .before .before .before .before .before .before .before .before .before .before .before), (begun-ready (c .nobody .ensures) lent (done-ready (x s) (s .pre) _ _ _ z (s .args .engine) _ _ j e), omega (arith, c .nobody .ensures .0)))
+    let lent = done-lent (x s) (s .pre) _ _ _ z (s .args .engine) _ _ _ j e (table (c .before .before .before .before .before)) (c .before .before .before .before .before .before .before .before .before .before .before .before .before .before .before .before .before .before .before .before .before .before .clear .ensures) in
+    (slot-is (c .before .before .before .before .before .before .before .before .before .before .before .before .before .before .before .before .before .before), (begun-ready (c .nobody .ensures) lent (done-ready (x s) (s .pre) _ _ _ z (s .args .engine) _ _ _ j e), omega (arith, c .nobody .ensures .0)))
 
 told-requires : tie.Need-told-requires
 told-requires c κs = search needs
@@ -140,17 +140,20 @@ fall-asleep-requires c κs =
     let e = slot (c .before .before .before .before .before .before .before .before .before .before) in
     (held-row (x s) (s .pre), (rw e (call-room (x s) (s .pre) _ _ _ z), (call-awake (x s) (s .pre) _ _ _ z, (call-few (x s) (s .pre) _ _ _ z, (omega (arith, slot-is (c .before .before .before .before .before .before .before .before .before .before)), call-numbered (x s) (s .pre) _ _ _ z)))))
 
+not-done-requires : tie.Need-not-done-requires
+not-done-requires c κs = search needs
+
 enum-told-3 : tie.Need-enum-told-3
 enum-told-3 c = search needs
 
-quiet-requires-2 : tie.Need-quiet-requires-2
-quiet-requires-2 c κs = search needs
+not-done-requires-2 : tie.Need-not-done-requires-2
+not-done-requires-2 c κs = search needs
 
 enum-told-4 : tie.Need-enum-told-4
 enum-told-4 c = search needs
 
-quiet-requires-3 : tie.Need-quiet-requires-3
-quiet-requires-3 c κs = search needs
+not-done-requires-3 : tie.Need-not-done-requires-3
+not-done-requires-3 c κs = search needs
 
 returns-2 : tie.Need-returns-2
 returns-2 c =
@@ -158,24 +161,24 @@ returns-2 c =
     let z = none (c .before .before .before .before .before .before .before .before .before .before .before .before .before .before .before .before .before .before .before .before .before) in
     let j = judged (c .before .before .before .before .before .before .before .before .before .before .before .before .before) in
     let e = c .before .before .before .before .before .before .before .before .before .before .before .enum-told .given .1 in
-    let lent = done-lent (x s) (s .pre) _ _ _ z (s .args .engine) _ _ j e (table (c .before .before .before .before .before .before .before)) (c .before .before .before .before .before .before .before .before .before .before .before .before .before .before .before .before .before .before .before .before .before .before .before .before .clear .ensures) in
-    done-after (x s) (s .pre) _ _ _ z (s .args .engine) _ _ j e (slot (c .before .before .before .before .before .before .before .before .before .before .before .before .before .before .before .before .before .before .before .before)) (values-are (c .before .before .before .before .before .before .before .before .before .before .before .before .before .before .before .before .before .before)) (sizes (c .before .before .before .before .before .before .before .before .before .before .before .before .before) .0) (c .before .before .before .before .before .before .differing-mask .ensures)
+    let lent = done-lent (x s) (s .pre) _ _ _ z (s .args .engine) _ _ _ j e (table (c .before .before .before .before .before .before .before)) (c .before .before .before .before .before .before .before .before .before .before .before .before .before .before .before .before .before .before .before .before .before .before .before .before .clear .ensures) in
+    done-after (x s) (s .pre) _ _ _ z (s .args .engine) _ _ _ j e (slot (c .before .before .before .before .before .before .before .before .before .before .before .before .before .before .before .before .before .before .before .before)) (values-are (c .before .before .before .before .before .before .before .before .before .before .before .before .before .before .before .before .before .before)) (sizes (c .before .before .before .before .before .before .before .before .before .before .before .before .before) .0) (c .before .before .before .before .before .before .differing-mask .ensures)
     (begun (c .before .before .nobody .ensures) lent (treated (s .args .engine) _ _) (c .before .wake .ensures)) (c .told .ensures)
 
 returns-3 : tie.Need-returns-3
 returns-3 c =
-    let s = c .before .before .before .before .before .before .before .before .before .before .before .before .before .before .before .before .before .before in
-    sleep-after (x s) (s .pre) _ _ _ (none (c .before .before .before .before .before .before .before .before .before .before .before .before)) (s .args .engine) _ _ (judged (c .before .before .before .before)) (c .before .before .enum-told2 .given .1) (rw (slot (c .before .before .before .before .before .before .before .before .before .before .before)) at (c .fall-asleep .ensures)) (c .before .before .before .before .before .before .before .before .before .before .before .before .before .before .before .clear .ensures) refl
+    let s = c .before .before .before .before .before .before .before .before .before .before .before .before .before .before .before .before .before .before .before in
+    sleep-after (x s) (s .pre) _ _ _ (none (c .before .before .before .before .before .before .before .before .before .before .before .before .before)) (s .args .engine) _ _ _ (judged (c .before .before .before .before .before)) (c .before .before .before .enum-told2 .given .1) (rw (slot (c .before .before .before .before .before .before .before .before .before .before .before .before)) at (c .before .fall-asleep .ensures)) (c .before .before .before .before .before .before .before .before .before .before .before .before .before .before .before .before .clear .ensures) (c .not-done .ensures)
 
 returns-4 : tie.Need-returns-4
 returns-4 c =
     let s = c .before .before .before .before .before .before .before .before .before .before .before .before .before .before .before .before .before in
-    again-after (x s) (s .pre) _ _ _ (none (c .before .before .before .before .before .before .before .before .before .before .before)) (s .args .engine) _ _ (judged (c .before .before .before)) (c .before .enum-told3 .given .1) (c .before .before .before .before .before .before .before .before .before .before .before .before .before .before .clear .ensures) (c .quiet2 .ensures)
+    again-after (x s) (s .pre) _ _ _ (none (c .before .before .before .before .before .before .before .before .before .before .before)) (s .args .engine) _ _ _ (judged (c .before .before .before)) (c .before .enum-told3 .given .1) (c .before .before .before .before .before .before .before .before .before .before .before .before .before .before .clear .ensures) (c .not-done2 .ensures)
 
 returns-5 : tie.Need-returns-5
 returns-5 c =
     let s = c .before .before .before .before .before .before .before .before .before .before .before .before .before .before .before .before .before in
-    range-after (x s) (s .pre) _ _ _ (none (c .before .before .before .before .before .before .before .before .before .before .before)) (s .args .engine) _ _ (judged (c .before .before .before)) (c .before .enum-told4 .given .1) (c .before .before .before .before .before .before .before .before .before .before .before .before .before .before .clear .ensures) (c .quiet3 .ensures)
+    range-after (x s) (s .pre) _ _ _ (none (c .before .before .before .before .before .before .before .before .before .before .before)) (s .args .engine) _ _ _ (judged (c .before .before .before)) (c .before .enum-told4 .given .1) (c .before .before .before .before .before .before .before .before .before .before .before .before .before .before .clear .ensures) (c .not-done3 .ensures)
 
 pub operate-spec : {M : Type 1} → statement M
 operate-spec =
@@ -198,10 +201,11 @@ operate-spec =
     told-requires
     enum-told-2
     fall-asleep-requires
+    not-done-requires
     enum-told-3
-    quiet-requires-2
+    not-done-requires-2
     enum-told-4
-    quiet-requires-3
+    not-done-requires-3
     returns-2
     returns-3
     returns-4

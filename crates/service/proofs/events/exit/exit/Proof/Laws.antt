@@ -6,7 +6,6 @@ use lib.IntN.{pos}
 use lib.ListN.{length}
 use Rattle.model.specs.declared.Engine.{Engine}
 use Rattle.model.specs.declared.Told.{Told}
-use Rattle.model.specs.declared.Waking.{Waking}
 use Rattle.model.specs.Limits.{slots}
 use Rattle.model.specs.State.{Table, Sleeper}
 use Rattle.model.specs.Checks.{checkProcess}
@@ -19,7 +18,7 @@ use Rattle.model.proofs.QueueLaws.{keep-all, keep-distinct}
 use Rattle.model.proofs.TableLaws.{exited-good}
 use Rattle.host.specs.Parts.{Row}
 use Rattle.host.specs.Holding.{Host, withQueue, withTable, setsFrom, setsIn, queueIn, tableIn, stateIn, Held}
-use Rattle.wakings.specs.Wakings.{listOf}
+use Rattle.wakings.specs.Wakings.{Place, listOf}
 use Rattle.service_table.specs.Numbered.{IsProcess}
 use Rattle.service_table.specs.Written.{tabled}
 use Rattle.service_waking.specs.Lent.{Left, unwoken, Ready, treatedFrom}
@@ -53,11 +52,11 @@ module _ (x : Host) (k : Held x) (p : ℕ) (z : checkProcess p ≡ 0) where
   distinct = keep-distinct (notOf p) (queueIn (x .row)) (held-invariant x k .distinct)
 
   -- the process has left, and its adjustments are undone
-  pub exit-lent : {r : Row} {y : Host} {l : List Waking} → r ≡ withQueue (x .row) (keep (notOf p) (queueIn (x .row)))
+  pub exit-lent : {r : Row} {y : Host} {l : List Place} → r ≡ withQueue (x .row) (keep (notOf p) (queueIn (x .row)))
       → y ≡ tabled (record { row = r; adjustments = x .adjustments }) (exited (tableIn (record { row = r; adjustments = x .adjustments })) p) → l ≡ listOf []
       → record { host = y; wakings = l; woken = 0 } ≡ unwoken x (exited (tableIn x) p) (keep (notOf p) (queueIn (x .row)))
   exit-lent {r} {y} {l} er ey el =
-      ap₂ (λ (h : Host) (w : List Waking). record { host = h; wakings = w; woken = 0 })
+      ap₂ (λ (h : Host) (w : List Place). record { host = h; wakings = w; woken = 0 })
       (ey ∙ ap (λ (a : Row). tabled (record { row = a; adjustments = x .adjustments }) (exited (tableIn (record { row = a; adjustments = x .adjustments })) p)) er
       ∙ ap (λ (a : Row). record { row = a; adjustments = exited (tableIn x) p .adjustments }) (table-under (x .row) (exited (tableIn x) p) (keep (notOf p) (queueIn (x .row)))))
       el

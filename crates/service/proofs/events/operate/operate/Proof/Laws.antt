@@ -1,5 +1,5 @@
 -- Operate, once no check applies: as its array is judged.
-use Prim.Native.Nat.{ℕ, _≤_, _<_}
+use Prim.Native.Nat.{ℕ, _%_, _≤_, _<_}
 use native.Mathlib.Omega.{arith}
 use mathlib.Core.Path.{_≡_, sym, ap, ap₂, _∙_}
 use mathlib.Core.Logic.{_≢_}
@@ -11,32 +11,33 @@ use Rattle.model.specs.declared.Copies.{Copies}
 use Rattle.model.specs.declared.Engine.{Engine}
 use Rattle.model.specs.declared.Outcome.{Outcome}
 use Rattle.model.specs.declared.Outcome.the-variants.{Done, Sleep, Again, Range}
+use Rattle.model.specs.declared.Position.{Position}
 use Rattle.model.specs.declared.Told.{Told}
-use Rattle.model.specs.declared.Waking.{Waking}
 use Rattle.model.specs.Limits.{semaphores, processes, allSemaphores}
 use Rattle.model.specs.State.{Table, Sleeper, row}
 use Rattle.model.specs.Look.{look, applied, valuesOf}
 use Rattle.model.specs.Marks.{differing}
 use Rattle.model.specs.Checks.{slotOf, checkOperate}
-use Rattle.model.specs.Judge.{codeOf}
+use Rattle.model.specs.Judge.{codeOf, decidedAt, positionOf}
 use Rattle.model.specs.Waking.{waker}
-use Rattle.model.specs.Events.{Result, call, operated, doOperate}
+use Rattle.model.specs.Events.{Result, refusedAt, call, operated, doOperate}
 use Rattle.model.specs.Runs.{All, none, also}
 use Rattle.model.specs.Invariant.{Good, Fits}
 use Rattle.model.proofs.Lists.{all-append}
 use Rattle.model.proofs.CheckLaws.{Operable, operate-passes}
 use Rattle.model.proofs.QueueLaws.{distinct-snoc, fits-few}
 use Rattle.model.proofs.LookLaws.{look-fine, applied-good, numbers-fit}
+use Rattle.model.proofs.Positions.{position-small}
 use Rattle.host.specs.Parts.{Row}
 use Rattle.host.specs.Holding.{Host, hostOf, withQueue, setsIn, queueIn, tableIn, stateIn, Held}
 use Rattle.host.specs.Queue.{Room}
-use Rattle.wakings.specs.Wakings.{listOf}
+use Rattle.wakings.specs.Wakings.{Place, listOf}
 use Rattle.service_table.specs.Numbered.{IsProcess, Numbered}
 use Rattle.service_table.specs.Written.{tabled}
 use Rattle.service_waking.specs.Lent.{Left, unwoken, Ready, JudgedAs, treated}
 use Rattle.service_waking.proofs.LentLaws.{table-same}
-use Rattle.service.specs.After.{telling, afterOf}
-use Rattle.service.proofs.EventLaws.{held-invariant, host-of, poised-lent, poised-ready, after-refused, after-treated, goes-on}
+use Rattle.service.specs.After.{tellingAt, telling, afterOf}
+use Rattle.service.proofs.EventLaws.{held-invariant, host-of, poised-lent, poised-ready, after-treated, goes-on}
 
 -- the values that an applied array leaves
 pub applied-values : (t : Table) (s : Sleeper) (c : Copies) → length (t .values) ≡ allSemaphores → s .slot < 4 → length (c .values) ≡ semaphores → valuesOf (applied t s c) (s .slot) ≡ c .values
@@ -73,14 +74,20 @@ module _ (x : Host) (k : Held x) (p : ℕ) (i : ℤ) (bytes : List ℕ) (z : che
       (distinct-snoc (queueIn (x .row)) (call p i bytes) (held-invariant x k .distinct) (operable .others)) in
       omega (arith, few, length-append (queueIn (x .row)) (call p i bytes ∷ []))
 
-  module _ (engine : Engine) (o : Outcome) (c : Copies) (j : JudgedAs (tableIn x) (call p i bytes) o c) where
+  module _ (engine : Engine) (o : Outcome) (n : ℕ) (c : Copies) (j : JudgedAs (tableIn x) (call p i bytes) o n c) where
     abbrev told-of : Outcome → Result
-    told-of u = operated (waker engine) (stateIn x) (call p i bytes) u (look (tableIn x) (call p i bytes) .copies)
+    told-of u = operated (waker engine) (stateIn x) (call p i bytes) u (positionOf (look (tableIn x) (call p i bytes))) (look (tableIn x) (call p i bytes) .copies)
 
     -- what the definition says of the outcome
     does : {u : Outcome} → o ≡ u → afterOf (told-of u) ≡ afterOf (doOperate (waker engine) (stateIn x) p i bytes)
     unfolding doOperate
     does {u} e = ap (λ (y : Outcome). afterOf (told-of y)) (sym e ∙ j .outcome) ∙ ap afterOf (goes-on (stateIn x) _ z)
+
+    -- the operation that it names is the one that was told
+    named-is : decidedAt o (n % 256) ≡ positionOf (look (tableIn x) (call p i bytes))
+    named-is =
+        let small : n % 256 ≡ n = omega (arith, j .position, position-small (tableIn x) (call p i bytes) call-fits) in
+        ap (decidedAt o) small ∙ ap₂ decidedAt (j .outcome) (j .position)
 
     -- ---- done
 
@@ -94,7 +101,7 @@ module _ (x : Host) (k : Held x) (p : ℕ) (i : ℤ) (bytes : List ℕ) (z : che
       done-is : applied (tableIn x) (call p i bytes) c ≡ applied (tableIn x) (call p i bytes) (look (tableIn x) (call p i bytes) .copies)
       done-is = ap (applied (tableIn x) (call p i bytes)) (j .copies e)
 
-      pub done-lent : {y : Host} {l : List Waking} → y ≡ tabled x (applied (tableIn x) (call p i bytes) c) → l ≡ listOf []
+      pub done-lent : {y : Host} {l : List Place} → y ≡ tabled x (applied (tableIn x) (call p i bytes) c) → l ≡ listOf []
           → record { host = y; wakings = l; woken = 0 } ≡ unwoken x (applied (tableIn x) (call p i bytes) (look (tableIn x) (call p i bytes) .copies)) (queueIn (x .row))
       done-lent ey el = poised-lent x k _ (ey ∙ ap (tabled x) done-is) el
 
@@ -120,23 +127,32 @@ module _ (x : Host) (k : Held x) (p : ℕ) (i : ℤ) (bytes : List ℕ) (z : che
 
     -- ---- asleep
 
-    pub sleep-after : {r : Row} {l : List Waking} {told : Told} → o ≡ Sleep → r ≡ withQueue (x .row) (queueIn (x .row) ++ call p i bytes ∷ []) → l ≡ listOf [] → told ≡ telling (negsuc 0) 0 0 0
+    pub sleep-after : {r : Row} {l : List Place} {told : Told} → o ≡ Sleep → r ≡ withQueue (x .row) (queueIn (x .row) ++ call p i bytes ∷ []) → l ≡ listOf []
+        → told ≡ tellingAt (negsuc 0) (decidedAt o (n % 256)) 0 0 0
         → record { host = record { row = r; adjustments = x .adjustments }; wakings = l; told = told } ≡ afterOf (doOperate (waker engine) (stateIn x) p i bytes)
     unfolding operated codeOf
     sleep-after {r} {l} {told} e er el et =
         let longer : List Sleeper = queueIn (x .row) ++ call p i bytes ∷ [] in
         let h =
         ap (λ (y : Row). record { row = y; adjustments = x .adjustments }) (er ∙ sym (table-same (x .row) (x .adjustments) longer)) ∙ host-of x k (tableIn x) longer in
-        ap₂ (λ (y : Host) (w : List Waking). record { host = y; wakings = w; told = told }) h el
-        ∙ ap (λ (u : Told). record { host = hostOf (record { sets = setsIn (x .row); table = tableIn x; queue = longer }); wakings = listOf []; told = u }) et
+        ap₂ (λ (y : Host) (w : List Place). record { host = y; wakings = w; told = told }) h el
+        ∙ ap (λ (u : Told). record { host = hostOf (record { sets = setsIn (x .row); table = tableIn x; queue = longer }); wakings = listOf []; told = u }) (et ∙ ap (λ (d : Position). tellingAt (negsuc 0) d 0 0 0) named-is)
         ∙ does e
 
     -- ---- refused by judging
 
-    pub again-after : {l : List Waking} {told : Told} → o ≡ Again → l ≡ listOf [] → told ≡ telling (pos 11) 0 0 0 → record { host = x; wakings = l; told = told } ≡ afterOf (doOperate (waker engine) (stateIn x) p i bytes)
-    unfolding operated
-    again-after e el et = after-refused x k 11 (told-of Again) (λ n. omega arith) el et ∙ does e
+    judged-after : (code : ℕ) {l : List Place} {told : Told} → l ≡ listOf [] → told ≡ tellingAt (pos code) (decidedAt o (n % 256)) 0 0 0
+        → record { host = x; wakings = l; told = told } ≡ afterOf (refusedAt (stateIn x) code (positionOf (look (tableIn x) (call p i bytes))))
+    judged-after code el et =
+        ap₂ (λ (l : List Place) (u : Told). record { host = x; wakings = l; told = u }) el (et ∙ ap (λ (d : Position). tellingAt (pos code) d 0 0 0) named-is)
+        ∙ ap (λ (y : Host). record { host = y; wakings = listOf []; told = tellingAt (pos code) (positionOf (look (tableIn x) (call p i bytes))) 0 0 0 }) (k .holds)
 
-    pub range-after : {l : List Waking} {told : Told} → o ≡ Range → l ≡ listOf [] → told ≡ telling (pos 34) 0 0 0 → record { host = x; wakings = l; told = told } ≡ afterOf (doOperate (waker engine) (stateIn x) p i bytes)
+    pub again-after : {l : List Place} {told : Told} → o ≡ Again → l ≡ listOf [] → told ≡ tellingAt (pos 11) (decidedAt o (n % 256)) 0 0 0
+        → record { host = x; wakings = l; told = told } ≡ afterOf (doOperate (waker engine) (stateIn x) p i bytes)
     unfolding operated
-    range-after e el et = after-refused x k 34 (told-of Range) (λ n. omega arith) el et ∙ does e
+    again-after e el et = judged-after 11 el et ∙ does e
+
+    pub range-after : {l : List Place} {told : Told} → o ≡ Range → l ≡ listOf [] → told ≡ tellingAt (pos 34) (decidedAt o (n % 256)) 0 0 0
+        → record { host = x; wakings = l; told = told } ≡ afterOf (doOperate (waker engine) (stateIn x) p i bytes)
+    unfolding operated
+    range-after e el et = judged-after 34 el et ∙ does e

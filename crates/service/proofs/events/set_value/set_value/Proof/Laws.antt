@@ -10,7 +10,6 @@ use lib.IntN.{ℤ, pos, natAbs}
 use borrow.Author.Tests.{not-false}
 use Rattle.model.specs.declared.Engine.{Engine}
 use Rattle.model.specs.declared.Told.{Told}
-use Rattle.model.specs.declared.Waking.{Waking}
 use Rattle.model.specs.Limits.{semaphores}
 use Rattle.model.specs.State.{State}
 use Rattle.model.specs.Checks.{check, inRange, slotOf, checkSetValue, checkNumber}
@@ -21,7 +20,7 @@ use Rattle.model.proofs.CheckLaws.{passes, Assignable, setValue-passes}
 use Rattle.model.proofs.TableLaws.{assigned-good}
 use Rattle.host.specs.Holding.{Host, queueIn, tableIn, stateIn, Held}
 use Rattle.judging.specs.Value.{valueOf}
-use Rattle.wakings.specs.Wakings.{listOf}
+use Rattle.wakings.specs.Wakings.{Place, listOf}
 use Rattle.service_table.specs.Written.{tabled}
 use Rattle.service_waking.specs.Lent.{Left, unwoken, Ready, treated}
 use Rattle.service.specs.After.{telling, afterOf}
@@ -45,7 +44,7 @@ module _ (x : Host) (k : Held x) (i : ℤ) (n : ℕ) (v : ℤ) (z : checkSetValu
   good : Good (assigned (tableIn x) (slotOf i) n (natAbs v))
   good = assigned-good (tableIn x) (slotOf i) n (natAbs v) (held-invariant x k .good) (set-passed .value)
 
-  pub set-lent : {y : Host} {l : List Waking} → y ≡ tabled x (assigned (tableIn x) (slotOf i) n (natAbs v)) → l ≡ listOf []
+  pub set-lent : {y : Host} {l : List Place} → y ≡ tabled x (assigned (tableIn x) (slotOf i) n (natAbs v)) → l ≡ listOf []
       → record { host = y; wakings = l; woken = 0 } ≡ unwoken x (assigned (tableIn x) (slotOf i) n (natAbs v)) (queueIn (x .row))
   set-lent ey el = poised-lent x k (assigned (tableIn x) (slotOf i) n (natAbs v)) ey el
 
