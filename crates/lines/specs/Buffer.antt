@@ -22,17 +22,21 @@ pub record PutIn (most : ℕ) (out : List ℕ) (at : ℕ) (text after : List ℕ
   pub put : Put out at text after next
   pub short : length text ≤ most
 
--- a blank, a process, a sign of equality, and a code
-abbrev pub wakingBytes : ℕ
-wakingBytes = 23
+-- an at sign, and a position of three digits
+abbrev pub positionBytes : ℕ
+positionBytes = 4
 
--- a position, a code and a value, with a blank between
+-- a blank, a process, a sign of equality, a code, and the operation that decided
+abbrev pub wakingBytes : ℕ
+wakingBytes = 27
+
+-- a position and a code, with a blank between
 abbrev pub openingBytes : ℕ
-openingBytes = 43
+openingBytes = 32
 
 -- no line is longer
 abbrev pub lineBytes : ℕ
-lineBytes = 250
+lineBytes = 285
 
 -- is there room for any line?
 abbrev pub hasRoom : List ℕ → ℕ → Bool

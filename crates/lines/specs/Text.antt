@@ -4,6 +4,8 @@ use mathlib.Core.Bool.{cond}
 use mathlib.Core.List.{List, [], _∷_, _++_}
 use lib.Dec.{ltb}
 use lib.IntN.{ℤ, pos, negsuc}
+use Rattle.model.specs.declared.Position.{Position}
+use Rattle.model.specs.declared.Position.the-variants.{Nowhere, At}
 use Rattle.model.specs.declared.Waking.{Waking}
 use Rattle.model.specs.Events.{Event, isQuery, Answer, Result}
 
@@ -17,6 +19,9 @@ minus = 45
 
 abbrev pub equals : ℕ
 equals = 61
+
+abbrev pub atSign : ℕ
+atSign = 64
 
 abbrev pub newline : ℕ
 newline = 10
@@ -51,30 +56,35 @@ headLine n = wordLine (101 ∷ 118 ∷ 101 ∷ 110 ∷ 116 ∷ 115 ∷ []) n
 abbrev pub badLine : ℕ → List ℕ
 badLine code = wordLine (98 ∷ 97 ∷ 100 ∷ []) code
 
+-- "the output, as code@position": what stands behind a code, and nothing where no operation decided
+unfoldable pub positionText : Position → List ℕ
+positionText Nowhere = []
+positionText (At k) = atSign ∷ digitsOf k
+
 -- "the wakings as process=code", a blank before each
-unfoldable pub wakingText : ℕ → ℤ → List ℕ
-wakingText process code = blank ∷ digitsOf process ++ equals ∷ signedOf code
+unfoldable pub wakingText : ℕ → ℤ → Position → List ℕ
+wakingText process code decided = blank ∷ digitsOf process ++ equals ∷ signedOf code ++ positionText decided
 
 unfoldable pub wakingsText : List Waking → List ℕ
 wakingsText [] = []
-wakingsText (w ∷ ws) = wakingText (w .process) (w .code) ++ wakingsText ws
+wakingsText (w ∷ ws) = wakingText (w .process) (w .code) (w .position) ++ wakingsText ws
 
--- position, code and value: what the line of any event begins with
-abbrev pub openingText : ℕ → ℤ → ℕ → List ℕ
-openingText position code value = digitsOf position ++ blank ∷ signedOf code ++ blank ∷ digitsOf value
+-- position and code: what the line of any event begins with
+abbrev pub openingText : ℕ → ℤ → List ℕ
+openingText position code = digitsOf position ++ blank ∷ signedOf code
 
 -- "position from 0, code, value, quick looks, and the wakings"
-unfoldable pub eventText : ℕ → ℤ → ℕ → ℕ → List Waking → List ℕ
-eventText position code value looks wakings =
-    openingText position code value ++ blank ∷ digitsOf looks ++ wakingsText wakings ++ newline ∷ []
+unfoldable pub eventText : ℕ → ℤ → Position → ℕ → ℕ → List Waking → List ℕ
+eventText position code decided value looks wakings =
+    openingText position code ++ positionText decided ++ blank ∷ digitsOf value ++ blank ∷ digitsOf looks ++ wakingsText wakings ++ newline ∷ []
 
 -- "A query line is position, code, value, last process, for increase, for zero"
 unfoldable pub queryText : ℕ → ℤ → ℕ → ℕ → ℕ → ℕ → List ℕ
 queryText position code value last forIncrease forZero =
-    openingText position code value ++ blank ∷ digitsOf last ++ blank ∷ digitsOf forIncrease ++ blank ∷ digitsOf forZero ++ newline ∷ []
+    openingText position code ++ blank ∷ digitsOf value ++ blank ∷ digitsOf last ++ blank ∷ digitsOf forIncrease ++ blank ∷ digitsOf forZero ++ newline ∷ []
 
 abbrev pub eventLine : ℕ → Result → List ℕ
-eventLine position r = eventText position (r .answer .code) (r .answer .value) (r .looks) (r .wakings)
+eventLine position r = eventText position (r .answer .code) (r .answer .position) (r .answer .value) (r .looks) (r .wakings)
 
 abbrev pub queryLine : ℕ → Answer → List ℕ
 queryLine position a = queryText position (a .code) (a .value) (a .seen .last) (a .seen .increase) (a .seen .zero)

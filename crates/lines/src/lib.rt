@@ -8,25 +8,28 @@ ghost use mathlib.Core.Path.{_≡_};
 ghost use mathlib.Core.List.{[], _∷_};
 ghost use Prim.Native.Nat.{_+_, _*_, _≤_};
 ghost use lib.Dec.{leb};
-ghost use lib.ListN.{length, take};
+ghost use lib.ListN.{length};
 ghost use lib.IntN.{pos};
 ghost use Rattle.model.specs.Limits.{processes};
-ghost use Rattle.wakings.specs.Wakings.{wakingsIn};
-ghost use Rattle.lines.specs.Text.{newline, wordLine, headLine, badLine, wakingText, wakingsText, openingText, eventText, queryText};
-ghost use Rattle.lines.specs.Buffer.{Put, PutIn, putLine, lineBytes, wakingBytes, openingBytes};
+ghost use Rattle.wakings.specs.Wakings.{placesIn, wakingsIn};
+ghost use Rattle.lines.specs.Text.{newline, wordLine, headLine, badLine, positionText, wakingText, wakingsText, openingText, eventText, queryText};
+ghost use Rattle.lines.specs.Buffer.{Put, PutIn, putLine, lineBytes, positionBytes, wakingBytes, openingBytes};
 use crate::numbers::marked;
 use crate::numbers::number;
 use crate::numbers::signed;
+use model::Position;
 use model::Queried;
 use model::Told;
 use model::WAKING_BYTES;
 
 // The room that a line function asks for.
-const LINE_BYTES: usize = 250;
+const LINE_BYTES: usize = 285;
 
 const BLANK: u8 = 32;
 
 const EQUALS: u8 = 61;
+
+const AT_SIGN: u8 = 64;
 
 const NEWLINE: u8 = 10;
 
@@ -102,28 +105,39 @@ pub fn bad_line(out: &mut [u8], at: usize, code: u16) -> usize
 }
 
 // What the line of any event begins with.
-fn opening(out: &mut [u8], at: usize, position: usize, code: i32, value: u32) -> usize
+fn opening(out: &mut [u8], at: usize, position: usize, code: i32) -> usize
     requires { ⌜ at + openingBytes ≤ length (now out) ⌝ }
-    ensures { λ r. ⌜ PutIn openingBytes (now (out .entry)) at (openingText position code value) (now (out .exit)) r ⌝ }
+    ensures { λ r. ⌜ PutIn openingBytes (now (out .entry)) at (openingText position code) (now (out .exit)) r ⌝ }
 {
-    let a = number(out, at, position);
-    let b = signed(out, a, BLANK, code);
-    marked(out, b, BLANK, value as usize)
+    let next = number(out, at, position);
+    signed(out, next, BLANK, code)
+}
+
+// Writes which operation decided, behind its code; nothing where none did.
+fn decided(out: &mut [u8], at: usize, position: Position) -> usize
+    requires { ⌜ at + positionBytes ≤ length (now out) ⌝ }
+    ensures { λ r. ⌜ PutIn positionBytes (now (out .entry)) at (positionText position) (now (out .exit)) r ⌝ }
+{
+    match position {
+        Position::Nowhere => at,
+        Position::At(number) => marked(out, at, AT_SIGN, number as usize),
+    }
 }
 
 // Writes a waking as process=code, behind a blank.
-fn woke(out: &mut [u8], at: usize, process: u8, code: u8) -> usize
+fn woke(out: &mut [u8], at: usize, process: u8, code: u8, position: Position) -> usize
     requires { ⌜ at + wakingBytes ≤ length (now out) ⌝ }
-    ensures { λ r. ⌜ PutIn wakingBytes (now (out .entry)) at (wakingText process (pos code)) (now (out .exit)) r ⌝ }
+    ensures { λ r. ⌜ PutIn wakingBytes (now (out .entry)) at (wakingText process (pos code) position) (now (out .exit)) r ⌝ }
 {
-    let next = marked(out, at, BLANK, process as usize);
-    marked(out, next, EQUALS, code as usize)
+    let a = marked(out, at, BLANK, process as usize);
+    let b = marked(out, a, EQUALS, code as usize);
+    decided(out, b, position)
 }
 
 // Writes the first `count` wakings of a list, and no more than there are.
 fn all_woken(out: &mut [u8], at: usize, count: usize, list: &[u8; WAKING_BYTES]) -> usize
     requires { ⌜ at + processes * wakingBytes ≤ length (now out) ⌝ }
-    ensures { λ r. ⌜ PutIn (processes * wakingBytes) (now (out .entry)) at (wakingsText (take count (wakingsIn (now (list .entry))))) (now (out .exit)) r ⌝ }
+    ensures { λ r. ⌜ PutIn (processes * wakingBytes) (now (out .entry)) at (wakingsText (wakingsIn count (placesIn (now (list .entry))))) (now (out .exit)) r ⌝ }
 {
     let most = if count < model::PROCESSES {
         count
@@ -137,6 +151,7 @@ fn all_woken(out: &mut [u8], at: usize, count: usize, list: &[u8; WAKING_BYTES])
             next,
             wakings::process_of(list, k),
             wakings::code_of(list, k),
+            wakings::position_of(list, k),
         );
     }
     next
@@ -145,12 +160,15 @@ fn all_woken(out: &mut [u8], at: usize, count: usize, list: &[u8; WAKING_BYTES])
 // The numbers that an event told, and its wakings.
 fn all_told(out: &mut [u8], at: usize, position: usize, t: Told, list: &[u8; WAKING_BYTES]) -> usize
     requires { ⌜ at + lineBytes ≤ length (now out) ⌝ }
-    ensures { λ r. ⌜ PutIn lineBytes (now (out .entry)) at (eventText position (t .code) (t .value) (t .looks) (take (t .woken) (wakingsIn (now (list .entry))))) (now (out .exit)) r ⌝ }
+    ensures { λ r. ⌜ PutIn lineBytes (now (out .entry)) at (eventText position (t .code) (t .position) (t .value) (t .looks) (wakingsIn (t .woken) (placesIn (now (list .entry))))) (now (out .exit)) r ⌝ }
 {
-    let a = opening(out, at, position, t.code, t.value);
-    let b = marked(out, a, BLANK, t.looks);
-    let c = all_woken(out, b, t.woken, list);
-    ended(out, c)
+    let a = opening(out, at, position, t.code);
+    let decider = t.position;
+    let b = decided(out, a, decider);
+    let c = marked(out, b, BLANK, t.value as usize);
+    let d = marked(out, c, BLANK, t.looks);
+    let e = all_woken(out, d, t.woken, list);
+    ended(out, e)
 }
 
 // The line of any event but a query: what it told, and the wakings in the list that it was lent.
@@ -161,7 +179,7 @@ pub fn told_line(
     told: Told,
     wakings: &[u8; WAKING_BYTES],
 ) -> usize
-    ensures { λ r. ⌜ (r, now (out .exit)) ≡ putLine (now (out .entry)) at (eventText position (told .code) (told .value) (told .looks) (take (told .woken) (wakingsIn (now (wakings .entry))))) ⌝ }
+    ensures { λ r. ⌜ (r, now (out .exit)) ≡ putLine (now (out .entry)) at (eventText position (told .code) (told .position) (told .value) (told .looks) (wakingsIn (told .woken) (placesIn (now (wakings .entry))))) ⌝ }
     ensures { λ r. ⌜ r ≤ at + lineBytes ⌝ }
 {
     if !has_room(out.len(), at) {
@@ -184,11 +202,12 @@ fn queried(
     requires { ⌜ at + lineBytes ≤ length (now out) ⌝ }
     ensures { λ r. ⌜ PutIn lineBytes (now (out .entry)) at (queryText position code value last increase zero) (now (out .exit)) r ⌝ }
 {
-    let a = opening(out, at, position, code, value as u32);
-    let b = marked(out, a, BLANK, last as usize);
-    let c = marked(out, b, BLANK, increase as usize);
-    let d = marked(out, c, BLANK, zero as usize);
-    ended(out, d)
+    let a = opening(out, at, position, code);
+    let b = marked(out, a, BLANK, value as usize);
+    let c = marked(out, b, BLANK, last as usize);
+    let d = marked(out, c, BLANK, increase as usize);
+    let e = marked(out, d, BLANK, zero as usize);
+    ended(out, e)
 }
 
 // The line of a query.

@@ -1,11 +1,11 @@
 -- `lines::opening` meets its contract, piece by piece.
 use Prim.Native.Nat.{ℕ}
-use mathlib.Core.List.{List, _∷_, _++_}
+use mathlib.Core.List.{List}
 use native.Mathlib.Omega.{arith}
-use mir.Syntax.{w32, w64}
+use mir.Syntax.{w64}
 use mir.Facts.{toZ-ofZ}
 use borrow.Author.Needs.{needs}
-use Rattle.lines.specs.Text.{blank, digitsOf, signedOf}
+use Rattle.lines.specs.Text.{digitsOf}
 use Rattle.lines.specs.Buffer.{PutIn}
 use Rattle.lines.proofs.Digits.{digits-fit}
 use Rattle.lines.proofs.Signs.{signed-short}
@@ -26,26 +26,17 @@ number-requires c κs = let s = c .before .before in omega (arith, digits-fit w6
 position-put : (c : tie.After-number) → let s = of-position c in Far 20 s (digitsOf (s .args .position)) (c .number .last .0) (c .number .result)
 position-put c = let s = of-position c in record { put = c .number .ensures; short = omega (arith, digits-fit w64 19 tt (s .fits .position)) }
 
-abbrev of-code : tie.After-signed → tie.Start
-of-code c = of-position (c .before .before .before .before)
-
 signed-requires : tie.Need-signed-requires
 signed-requires c κs = let s = of-position (c .before .before .before) in rw (toZ-ofZ (s .fits .code)) (omega (arith, room-left 12 (position-put (c .before .before .before)) (search needs), signed-short (s .args .code) (s .fits .code)))
-
-code-put : (c : tie.After-signed) → let s = of-code c in Far 32 s (digitsOf (s .args .position) ++ blank ∷ signedOf (s .args .code)) (c .signed .last .0) (c .signed .result)
-code-put c = let s = of-code c in also 12 (position-put (c .before .before .before .before)) (rw (toZ-ofZ (s .fits .code)) at (c .signed .ensures)) (omega (arith, signed-short (s .args .code) (s .fits .code)))
-
-marked-requires : tie.Need-marked-requires
-marked-requires c κs = let s = of-code (c .before .before .before) in omega (arith, room-left 11 (code-put (c .before .before .before)) (search needs), digits-fit w32 9 tt (s .fits .value))
 
 returns : tie.Need-returns
 returns c =
     let d = c .before .before .before .before .before .before in
-    also 11 (code-put d) (c .before .before .marked .ensures) (omega (arith, digits-fit w32 9 tt (of-code d .fits .value)))
+    let s = of-position d in
+    also 12 (position-put d) (rw (toZ-ofZ (s .fits .code)) at (c .before .before .signed .ensures)) (omega (arith, signed-short (s .args .code) (s .fits .code)))
 
 same-length : tie.Need-same-length
 same-length c = put-length (returns c .put)
 
 pub opening-spec : {M : Type 1} → statement M
-opening-spec =
-    tie.close (tie.spec number-requires signed-requires marked-requires same-length returns)
+opening-spec = tie.close (tie.spec number-requires signed-requires same-length returns)
