@@ -3,15 +3,14 @@ use Prim.Native.Nat.{ℕ, _+_, _≤_}
 use mathlib.Core.Path.{_≡_, refl, ap, _∙_}
 use mathlib.Core.Bool.{Bool, true, false, cond}
 use mathlib.Core.List.{List}
-use lib.ListN.{length, take}
+use lib.ListN.{length}
 use Rattle.model.specs.declared.Engine.{Engine}
-use Rattle.model.specs.declared.Waking.{Waking}
 use Rattle.model.specs.declared.Reply.{Reply}
 use Rattle.model.specs.declared.Reply.the-variants as reply
 use Rattle.model.specs.Waking.{waker}
 use Rattle.model.specs.Events.{Event, isQuery, Result, event}
 use Rattle.host.specs.Holding.{Host, hostOf, stateIn}
-use Rattle.wakings.specs.Wakings.{listOf}
+use Rattle.wakings.specs.Wakings.{Place, listOf, wakingsIn}
 use Rattle.wakings.proofs.ListLaws.{take-listed}
 use Rattle.service.specs.After.{toldOf, queriedOf, Replied, replyOf, repliedOf}
 use Rattle.runfile.specs.Body.{eventAt}
@@ -21,8 +20,8 @@ use Rattle.replaying.specs.Replay.{Stage, nextResult, nextLine, replyTex
 
 -- the line of what a result's event is answered
 module _ (position : ℕ) (r : Result) where
-  told : eventText position (r .answer .code) (r .answer .value) (r .looks) (take (length (r .wakings)) (listOf (r .wakings))) ≡ eventLine position r
-  told = ap (eventText position (r .answer .code) (r .answer .value) (r .looks)) (take-listed (r .wakings))
+  told : eventText position (r .answer .code) (r .answer .position) (r .answer .value) (r .looks) (wakingsIn (length (r .wakings)) (listOf (r .wakings))) ≡ eventLine position r
+  told = ap (eventText position (r .answer .code) (r .answer .position) (r .answer .value) (r .looks)) (take-listed (r .wakings))
 
   pub reply-line : (e : Event) → replyText position (listOf (r .wakings)) (replyOf e r) ≡ lineOf position e r
   unfolding lineOf
@@ -38,7 +37,7 @@ pub record Turned (engine : Engine) (file : List ℕ) (s : Stage) (out : List �
   pub fits : next′ ≤ next + lineBytes
 
 -- what `run` and then `reply_line` promise, of the event that stands next in the file
-pub turned : (engine : Engine) (file : List ℕ) (s : Stage) (out : List ℕ) (next : ℕ) {x : Host} {list : List Waking} {reply : Reply} {e : Event} {out′ : List ℕ} {next′ : ℕ}
+pub turned : (engine : Engine) (file : List ℕ) (s : Stage) (out : List ℕ) (next : ℕ) {x : Host} {list : List Place} {reply : Reply} {e : Event} {out′ : List ℕ} {next′ : ℕ}
     → e ≡ eventAt file (s .at) → record { host = x; wakings = list; reply = reply } ≡ repliedOf e (event (waker engine) (stateIn (s .host)) e)
     → (next′, out′) ≡ putLine out next (replyText (s .position) list reply) → next′ ≤ next + lineBytes
     → Turned engine file s out next x out′ next′

@@ -28,7 +28,7 @@ line-alike position e q p a = go (isQuery e)
   where
     go : (b : Bool) → LinesAlike (cond b (queryLine position (q .answer)) (eventLine position q)) (cond b (queryLine position (p .answer)) (eventLine position p))
     go true = rw (a .answer) (sameQuery position (p .answer .code) (p .answer .value) (p .answer .seen .last) (p .answer .seen .increase) (p .answer .seen .zero))
-    go false = rw (a .answer, a .wakings) (otherLooks position (p .answer .code) (p .answer .value) (q .looks) (p .looks) (p .wakings) (a .fewer) (a .bounded))
+    go false = rw (a .answer, a .wakings) (otherLooks position (p .answer .code) (p .answer .position) (p .answer .value) (q .looks) (p .looks) (p .wakings) (a .fewer) (a .bounded))
 
 lines-alike : (position : ℕ) (es : List Event) (qs ps : List Result) → Pairwise Alike qs ps → TextsAlike (textOf position es qs) (textOf position es ps)
 unfolding textOf

@@ -5,7 +5,6 @@ use mathlib.Core.List.{List, [], _++_}
 use lib.Dec.{ltb}
 use lib.ListN.{length, take}
 use Rattle.model.specs.declared.Engine.{Engine}
-use Rattle.model.specs.declared.Waking.{Waking}
 use Rattle.model.specs.declared.Reply.{Reply}
 use Rattle.model.specs.declared.Reply.the-variants.{Told, Seen}
 use Rattle.model.specs.State.{freshState}
@@ -13,6 +12,7 @@ use Rattle.model.specs.Waking.{waker}
 use Rattle.model.specs.Events.{Event, Result, event}
 use Rattle.model.specs.Runs.{run}
 use Rattle.host.specs.Holding.{Host, hostOf, stateIn}
+use Rattle.wakings.specs.Wakings.{Place, wakingsIn}
 use Rattle.runfile.specs.Table.{tableEnd}
 use Rattle.runfile.specs.Body.{eventAt, nextAt}
 use Rattle.runfile.specs.File.{File, bad, good, fileOf}
@@ -106,8 +106,8 @@ begun file out =
     wrote (startOf file) (put .0) (put .1)
 
 -- the line of an event's reply, with the list of wakings that the event was lent
-abbrev pub replyText : ℕ → List Waking → Reply → List ℕ
-replyText position list (Told t) = eventText position (t .code) (t .value) (t .looks) (take (t .woken) list)
+abbrev pub replyText : ℕ → List Place → Reply → List ℕ
+replyText position list (Told t) = eventText position (t .code) (t .position) (t .value) (t .looks) (wakingsIn (t .woken) list)
 replyText position list (Seen q) = queryText position (q .code) (q .value) (q .last) (q .increase) (q .zero)
 
 -- events run, and their lines stand one behind the other from a position on, while any is left and any line has room. The

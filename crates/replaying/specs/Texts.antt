@@ -6,6 +6,7 @@ use mathlib.Core.List.{List, [], _++_}
 use lib.IntN.{ℤ}
 use lib.ListN.{length, take}
 use Rattle.model.specs.declared.Engine.{Engine}
+use Rattle.model.specs.declared.Position.{Position}
 use Rattle.model.specs.declared.Waking.{Waking}
 use Rattle.model.specs.State.{freshState}
 use Rattle.model.specs.Runs.{run}
@@ -20,8 +21,8 @@ pub data LinesAlike : List ℕ → List ℕ → Type 0 where
   sameFirst : (f : File) → LinesAlike (firstLine f) (firstLine f)
   sameQuery : (position : ℕ) (code : ℤ) (value last forIncrease forZero : ℕ)
       → LinesAlike (queryText position code value last forIncrease forZero) (queryText position code value last forIncrease forZero)
-  otherLooks : (position : ℕ) (code : ℤ) (value quick plain : ℕ) (wakings : List Waking) → quick ≤ plain → plain ≤ 36
-      → LinesAlike (eventText position code value quick wakings) (eventText position code value plain wakings)
+  otherLooks : (position : ℕ) (code : ℤ) (decided : Position) (value quick plain : ℕ) (wakings : List Waking) → quick ≤ plain → plain ≤ 36
+      → LinesAlike (eventText position code decided value quick wakings) (eventText position code decided value plain wakings)
 
 -- two texts, line by line
 pub data TextsAlike : List ℕ → List ℕ → Type 0 where

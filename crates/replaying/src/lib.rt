@@ -8,7 +8,7 @@ ghost use Prim.Native.Nat.{_+_, _≤_};
 ghost use lib.ListN.{length};
 ghost use Rattle.model.specs.State.{freshState};
 ghost use Rattle.host.specs.Holding.{hostIn, hostOf};
-ghost use Rattle.wakings.specs.Wakings.{wakingsIn};
+ghost use Rattle.wakings.specs.Wakings.{placesIn};
 ghost use Rattle.lines.specs.Buffer.{lineBytes, putLine};
 ghost use Rattle.replaying.specs.Replay.{Came, stageIn, wroteIn, begun, pieceOf, replyText};
 use host::HOST_BYTES;
@@ -63,7 +63,7 @@ fn reply_line(
     reply: Reply,
     wakings: &[u8; WAKING_BYTES],
 ) -> usize
-    ensures { λ r. ⌜ (r, now (out .exit)) ≡ putLine (now (out .entry)) at (replyText position (wakingsIn (now (wakings .entry))) reply) ⌝ }
+    ensures { λ r. ⌜ (r, now (out .exit)) ≡ putLine (now (out .entry)) at (replyText position (placesIn (now (wakings .entry))) reply) ⌝ }
     ensures { λ r. ⌜ r ≤ at + lineBytes ⌝ }
 {
     match reply {
