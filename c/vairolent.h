@@ -1,14 +1,15 @@
 /* Vairolent: a service for System V semaphore sets whose every answer is proved.
  *
  * It is a library, not a kernel. The caller keeps a host and hands it to each of seven events (create, operate, set
- * value, remove, signal, exit, query); an event tells who sleeps, who is woken, with which code and in which order,
- * and the caller acts on it. No function waits, allocates, calls the system or keeps anything of its own. Two
- * threads that share a host take turns by a lock of their own.
+ * value, remove, signal, exit, query); an event tells who sleeps, who is woken, with which code and in which order, and
+ * which operation stopped whom, and the caller acts on it. No function waits, allocates, calls the system or keeps
+ * anything of its own. Two threads that share a host take turns by a lock of their own.
  *
  * Link with libvairolent.a. An answer's code is 0 (done), VAIROLENT_ASLEEP, or a number that <errno.h> names. */
 #ifndef VAIROLENT_H
 #define VAIROLENT_H
 
+#include <stdbool.h>
 #include <stddef.h>
 #include <stdint.h>
 
@@ -27,22 +28,33 @@ enum {
     VAIROLENT_OPERATIONS = 8,      /* 1 to 8 operations in one call */
     VAIROLENT_VALUE_MAX = 32767,   /* a value is 0 to 32,767, an undo adjustment -32,767 to 32,767 */
     VAIROLENT_ALL = 255,           /* the mask of all processes: process p has bit p-1 */
-    VAIROLENT_ASLEEP = -1,         /* the code of a call that sleeps */
+    VAIROLENT_ASLEEP = -1,         /* the code of a call that sleeps; its position names the operation that stopped */
     VAIROLENT_OPERATION_BYTES = 6, /* an operation: the bytes of a struct sembuf */
     VAIROLENT_ROW_BYTES = 533,     /* the bytes of a host's row */
     VAIROLENT_ADJUSTMENTS = 256    /* the undo adjustments of a host */
 };
 
+/* Which operation of an array decided, by its position from 0, if one did. There is one where judging did not let the
+ * array through: with the VAIROLENT_ASLEEP, EAGAIN or ERANGE of an operate, and the EAGAIN or ERANGE of a waking. There
+ * is none where the array is done, where a check before judging refuses it, in EIDRM and EINTR, and in any other event,
+ * the ERANGE of a set value included. */
+struct vairolent_position {
+    bool there;
+    uint8_t at; /* 0 to 7; 0 if there is none */
+};
+
 /* A sleeper that an event ended, and with which code: 0 its array was done; EAGAIN, an operation that has to sleep
  * has IPC_NOWAIT; ERANGE, a value or an adjustment would leave its range; EIDRM, its set was removed; EINTR, a
- * signal. */
+ * signal. The position is of the operation that now decided, which need not be the one at which the call went to
+ * sleep. */
 struct vairolent_waking {
     uint8_t process;
     uint8_t code;
+    struct vairolent_position position;
 };
 
 /* All that the service holds: the sets and their sleepers in a row of bytes, the undo adjustments, and the wakings
- * of the last event.
+ * of the last event, with zeros behind them.
  *
  * The premise of every event, and of showing a whole set: the host handed in is as vairolent_fresh or the last event
  * left it, byte for byte; nothing checks that when the program runs, and of any other host nothing is promised. A copy
@@ -53,13 +65,14 @@ struct vairolent_host {
     struct vairolent_waking wakings[VAIROLENT_PROCESSES];
 };
 
-/* What an event tells. A refused event tells its code and zeros, wakes nobody, and leaves sets, undo adjustments and
- * sleepers exactly as they stood. */
+/* What an event tells. A refused event tells its code, the position if an operation decided, and zeros; it wakes
+ * nobody, and leaves sets, undo adjustments and sleepers exactly as they stood. */
 struct vairolent_told {
     int32_t code;   /* 0, VAIROLENT_ASLEEP, or why the event is refused */
     uint32_t value; /* a create's: the identifier of its set; 0 of every other event */
     size_t looks;   /* how many times a sleeper was judged again, to see whether it wakes */
     size_t woken;   /* how many were woken: the first of the host's wakings, in the order in which they were ended */
+    struct vairolent_position position; /* the caller's operation that decided; each waking has its own */
 };
 
 /* What a query tells: a semaphore, and who waits for it now. */
@@ -135,14 +148,14 @@ static inline struct vairolent_told vairolent_create(struct vairolent_host *host
 /* An array of operations of a process at a set, done as a whole or not at all, as semop does it. Each operation is
  * judged on what those before it leave: an amount above 0 is added to the value; one below 0 is taken from it, and
  * stops where the value is smaller; 0 stops where the value is not 0. With SEM_UNDO the amount is also subtracted from
- * the process's undo adjustment. The first operation that stops, or gives ERANGE, decides: where it stops the process
- * sleeps (VAIROLENT_ASLEEP) and nothing else changes. If none does the array is done, the process becomes the last of
- * every semaphore that the array names, amounts of 0 included, and sleepers are woken. The archive's function takes the
- * bytes of the operations, six for each.
+ * the process's undo adjustment. The first operation that stops, or gives ERANGE, decides, and the position told is its
+ * position: where it stops the process sleeps (VAIROLENT_ASLEEP) and nothing else changes. If none does the array is
+ * done, the process becomes the last of every semaphore that the array names, amounts of 0 included, and sleepers are
+ * woken. The archive's function takes the bytes of the operations, six for each.
  * Refused, the first that applies: ESRCH process not 1 to 8; EBUSY it is asleep; EINVAL no operations, or bytes not a
  * multiple of 6; E2BIG over 8 operations; EINVAL no such set; EFBIG a number at or above the set's count; EACCES not
- * permitted; then as the deciding operation has it: EAGAIN it stops and has IPC_NOWAIT; ERANGE a value or an adjustment
- * would leave its range. */
+ * permitted; then as the deciding operation has it, with its position: EAGAIN it stops and has IPC_NOWAIT; ERANGE it
+ * would take its value, or with SEM_UNDO the adjustment, out of its range. */
 struct vairolent_told vairolent_operate_in(uint8_t *row, int16_t *adjustments, struct vairolent_waking *wakings,
                                            uint8_t process, int32_t identifier, const uint8_t *operations,
                                            size_t bytes);

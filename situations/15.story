@@ -11,8 +11,8 @@ event 1: set semaphore 0 of set 0 to 1
   values  set 0: 1 0
 
 event 2: process 2 on set 0: wait for zero at semaphore 0; wait for zero at semaphore 1
-  line    2 -1 0 0
-  answer  asleep (-1)
+  line    2 -1@0 0 0
+  answer  asleep (-1) at operation 0: semaphore 0 has value 1, the call wants zero
   values  set 0: 1 0
   waits   set 0, semaphore 0: 0 for increase, 1 for zero
 

@@ -16,8 +16,8 @@ event 2: process 1 on set 0: take 1 from semaphore 0 (undo)
   values  set 0: 0
 
 event 3: process 2 on set 0: take 1 from semaphore 0 (undo)
-  line    3 -1 0 0
-  answer  asleep (-1)
+  line    3 -1@0 0 0
+  answer  asleep (-1) at operation 0: semaphore 0 has value 0, the call wants 1
   values  set 0: 0
   waits   set 0, semaphore 0: 1 for increase, 0 for zero
 

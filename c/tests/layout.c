@@ -36,6 +36,7 @@ static struct vairolent_host host;
 static void limits_into(void *result) { raw_limits(result); }
 static void fresh_into(void *result) { raw_fresh(result); }
 static void told_into(void *result) { raw_signal(result, host.row, host.adjustments, host.wakings, 1); }
+static void wakings_into(void *wakings) { vairolent_signal_in(host.row, host.adjustments, wakings, 1); }
 static void queried_into(void *result) { raw_query(result, host.row, host.adjustments, 0, 0); }
 static void queried_set_into(void *result) { raw_query_set(result, host.row, host.adjustments, 0); }
 
@@ -46,10 +47,16 @@ struct field {
 };
 
 #define FIELD(type, name) {offsetof(struct vairolent_##type, name), sizeof((struct vairolent_##type *)0)->name}
-#define FIELDS(fields) fields, sizeof fields / sizeof fields[0]
+#define COUNTED(array) array, sizeof array / sizeof array[0]
 
-/* Does a call write the struct: every byte of each field, to the end of the last one, with so much padding between? */
-static void struct_is(const char *what, size_t size, void (*call)(void *), long long padding,
+/* The bytes of a struct that are of no field, between its fields and behind the last; a call may write them or not. */
+struct padding {
+    long long between;
+    long long behind;
+};
+
+/* Does a call write the struct: every byte of each field, and nothing behind it? */
+static void struct_is(const char *what, size_t size, void (*call)(void *), struct padding padding,
                       const struct field *fields, size_t count)
 {
     static unsigned char one[4096], two[4096];
@@ -57,19 +64,22 @@ static void struct_is(const char *what, size_t size, void (*call)(void *), long 
     memset(two, 0xff, sizeof two);
     call(one);
     call(two);
+    long long last = (long long)(fields[count - 1].at + fields[count - 1].bytes);
     long long end = sizeof one, left = 0, bytes = 0;
     while (end > 0 && one[end - 1] != two[end - 1])
         end--;
+    if (end > last && end <= last + padding.behind)
+        end = last;
     for (size_t i = 0; i < count; i++) {
         bytes += (long long)fields[i].bytes;
         for (size_t at = fields[i].at; at < fields[i].at + fields[i].bytes; at++)
             left += one[at] != two[at];
     }
     printf("%s: %zu bytes\n", what, size);
-    want("the size", (long long)size, end);
-    want("the end of the last field", (long long)(fields[count - 1].at + fields[count - 1].bytes), end);
+    want("the size", (long long)size, end + padding.behind);
+    want("the end of the last field", last, end);
     want("the number of bytes of a field that are not written", left, 0);
-    want("the bytes of all fields", bytes, end - padding);
+    want("the bytes of all fields", bytes, end - padding.between);
 }
 
 static void sizes(void)
@@ -78,7 +88,9 @@ static void sizes(void)
                                           FIELD(limits, operations), FIELD(limits, value_max),
                                           FIELD(limits, row_bytes), FIELD(limits, adjustments)};
     static const struct field hosts[] = {FIELD(host, row), FIELD(host, adjustments), FIELD(host, wakings)};
-    static const struct field told[] = {FIELD(told, code), FIELD(told, value), FIELD(told, looks), FIELD(told, woken)};
+    static const struct field told[] = {FIELD(told, code),  FIELD(told, value),          FIELD(told, looks),
+                                        FIELD(told, woken), FIELD(told, position.there), FIELD(told, position.at)};
+    static const struct field wakings[] = {{0, sizeof host.wakings}};
     static const struct field queried[] = {FIELD(queried, code), FIELD(queried, value), FIELD(queried, last),
                                            FIELD(queried, increase), FIELD(queried, zero),
                                            FIELD(queried, increase_mask), FIELD(queried, zero_mask),
@@ -88,15 +100,18 @@ static void sizes(void)
                                                FIELD(queried_set, lasts), FIELD(queried_set, increase),
                                                FIELD(queried_set, zero), FIELD(queried_set, increase_masks),
                                                FIELD(queried_set, zero_masks)};
+    const struct padding none = {0, 0}, three = {.between = 3};
     host = vairolent_fresh();
-    struct_is("struct vairolent_limits", sizeof(struct vairolent_limits), limits_into, 0, FIELDS(limits));
-    struct_is("struct vairolent_host", sizeof(struct vairolent_host), fresh_into, 1, FIELDS(hosts));
-    struct_is("struct vairolent_told", sizeof(struct vairolent_told), told_into, 0, FIELDS(told));
-    struct_is("struct vairolent_queried", sizeof(struct vairolent_queried), queried_into, 3, FIELDS(queried));
-    struct_is("struct vairolent_queried_set", sizeof(struct vairolent_queried_set), queried_set_into, 3,
-              FIELDS(queried_set));
+    struct_is("struct vairolent_limits", sizeof(struct vairolent_limits), limits_into, none, COUNTED(limits));
+    struct_is("struct vairolent_host", sizeof host, fresh_into, (struct padding){.between = 1}, COUNTED(hosts));
+    struct_is("struct vairolent_told", sizeof(struct vairolent_told), told_into, (struct padding){.behind = 6},
+              COUNTED(told));
+    struct_is("the wakings of a host", sizeof host.wakings, wakings_into, none, COUNTED(wakings));
+    struct_is("struct vairolent_queried", sizeof(struct vairolent_queried), queried_into, three, COUNTED(queried));
+    struct_is("struct vairolent_queried_set", sizeof(struct vairolent_queried_set), queried_set_into, three,
+              COUNTED(queried_set));
     want("the bytes of a struct sembuf", sizeof(struct sembuf), VAIROLENT_OPERATION_BYTES);
-    want("the bytes of a waking", sizeof(struct vairolent_waking), 2);
+    want("the bytes of a waking", sizeof(struct vairolent_waking), 4);
 }
 
 static void limits(void)
@@ -111,7 +126,7 @@ static void limits(void)
     want("VAIROLENT_ADJUSTMENTS", VAIROLENT_ADJUSTMENTS, (long long)built.adjustments);
     want("the bytes of a row", sizeof host.row, (long long)built.row_bytes);
     want("the bytes of the adjustments", sizeof host.adjustments, 2 * (long long)built.adjustments);
-    want("the bytes of the wakings", sizeof host.wakings, 2 * (long long)built.processes);
+    want("the bytes of the wakings", sizeof host.wakings, 4 * (long long)built.processes);
 }
 
 static struct vairolent_told operate(uint8_t process, int32_t set, unsigned short number, short amount, short flags)
@@ -150,6 +165,117 @@ static void offsets_told(void)
     want("the second one", host.wakings[1].process, 5);
     want("the second one's code", host.wakings[1].code, EIDRM);
     want("the place behind them", host.wakings[2].process, 0);
+}
+
+/* An operation that decided: its position, or none. */
+enum { NONE = -1 };
+
+/* Is there this position? The archive writes a bool as 0 or 1, and a position of 0 where there is none. */
+static void position_is(const char *what, struct vairolent_position position, int wanted)
+{
+    unsigned char there;
+    memcpy(&there, &position.there, 1);
+    want(what, there, wanted != NONE);
+    want(what, position.at, wanted == NONE ? 0 : wanted);
+}
+
+static void told_is(const char *what, struct vairolent_told told, int32_t code, int position)
+{
+    want(what, told.code, code);
+    position_is(what, told.position, position);
+}
+
+static void waking_is(const char *what, size_t place, uint8_t process, uint8_t code, int position)
+{
+    want(what, host.wakings[place].process, process);
+    want(what, host.wakings[place].code, code);
+    position_is(what, host.wakings[place].position, position);
+}
+
+/* Are the first bytes of the wakings these, and all others 0? */
+static void wakings_are(const char *what, const uint8_t *wanted, size_t count)
+{
+    uint8_t bytes[sizeof host.wakings], all[sizeof host.wakings] = {0};
+    memcpy(bytes, host.wakings, sizeof bytes);
+    memcpy(all, wanted, count);
+    want(what, memcmp(bytes, all, sizeof all), 0);
+}
+
+#define OPERATION(number, amount, flags) {.sem_num = number, .sem_op = amount, .sem_flg = flags}
+
+/* Where judging the caller's own array decided. */
+static void positions_of_calls(void)
+{
+    static const struct sembuf stops[] = {OPERATION(0, 1, 0), OPERATION(1, 1, 0), OPERATION(0, -2, 0)};
+    static const struct sembuf nowait[] = {OPERATION(1, 1, IPC_NOWAIT), OPERATION(1, 0, IPC_NOWAIT)};
+    static const struct sembuf value[] = {OPERATION(1, 1, 0), OPERATION(0, 32767, 0), OPERATION(1, 1, 0),
+                                          OPERATION(0, 1, 0)};
+    static const struct sembuf adjustment[] = {OPERATION(1, 32767, SEM_UNDO), OPERATION(1, -32767, 0),
+                                               OPERATION(1, 1, SEM_UNDO)};
+    enum { LAST = VAIROLENT_OPERATIONS - 1 };
+    static const struct sembuf most[VAIROLENT_OPERATIONS] = {[LAST] = OPERATION(0, -1, 0)};
+    host = vairolent_fresh();
+    vairolent_create(&host, 2, VAIROLENT_ALL, VAIROLENT_ALL);
+    told_is("asleep at the only one", operate(1, 0, 0, -1, 0), VAIROLENT_ASLEEP, 0);
+    told_is("asleep at the third", vairolent_operate(&host, 2, 0, COUNTED(stops)), VAIROLENT_ASLEEP, 2);
+    told_is("asleep at the last", vairolent_operate(&host, 3, 0, COUNTED(most)), VAIROLENT_ASLEEP, LAST);
+    told_is("EAGAIN at the only one", operate(4, 0, 0, -1, IPC_NOWAIT), EAGAIN, 0);
+    told_is("EAGAIN at the second", vairolent_operate(&host, 4, 0, COUNTED(nowait)), EAGAIN, 1);
+    told_is("ERANGE of a value", vairolent_operate(&host, 4, 0, COUNTED(value)), ERANGE, 3);
+    told_is("ERANGE of an adjustment", vairolent_operate(&host, 4, 0, COUNTED(adjustment)), ERANGE, 2);
+}
+
+/* Where nothing is judged, or all goes through. */
+static void no_positions(void)
+{
+    static const struct sembuf many[VAIROLENT_OPERATIONS + 1] = {OPERATION(0, 1, 0)};
+    host = vairolent_fresh();
+    told_is("a create", vairolent_create(&host, 1, VAIROLENT_ALL, 1), 0, NONE);
+    told_is("a create that is refused", vairolent_create(&host, 0, 0, 0), EINVAL, NONE);
+    told_is("asleep", operate(1, 0, 0, -1, 0), VAIROLENT_ASLEEP, 0);
+    told_is("no such process", operate(9, 0, 0, -1, 0), ESRCH, NONE);
+    told_is("the process is asleep", operate(1, 0, 0, -1, 0), EBUSY, NONE);
+    told_is("no operations", vairolent_operate(&host, 2, 0, NULL, 0), EINVAL, NONE);
+    told_is("too many operations", vairolent_operate(&host, 2, 0, COUNTED(many)), E2BIG, NONE);
+    told_is("no such set", operate(2, 1, 0, -1, 0), EINVAL, NONE);
+    told_is("no such semaphore", operate(2, 0, 1, -1, 0), EFBIG, NONE);
+    told_is("not permitted", operate(2, 0, 0, -1, 0), EACCES, NONE);
+    told_is("an array that is done", operate(2, 0, 0, 0, 0), 0, NONE);
+    told_is("a value out of range", vairolent_set_value(&host, 0, 0, -1), ERANGE, NONE);
+    told_is("a signal", vairolent_signal(&host, 1), 0, NONE);
+    waking_is("the interrupted", 0, 1, EINTR, NONE);
+    told_is("an exit", vairolent_exit(&host, 1), 0, NONE);
+    told_is("asleep once more", operate(1, 0, 0, -1, 0), VAIROLENT_ASLEEP, 0);
+    told_is("a removal", vairolent_remove(&host, 0), 0, NONE);
+    waking_is("the sleeper of a removed set", 0, 1, EIDRM, NONE);
+}
+
+/* Where judging sleepers again decided, which is not where they went to sleep. */
+static void positions_of_wakings(void)
+{
+    static const struct sembuf zero[] = {OPERATION(0, 0, IPC_NOWAIT), OPERATION(1, -1, 0)};
+    static const struct sembuf add[] = {OPERATION(0, 5, 0), OPERATION(1, -1, 0)};
+    static const struct sembuf then_zero[] = {OPERATION(1, -1, 0), OPERATION(0, 0, IPC_NOWAIT)};
+    static const struct sembuf then_add[] = {OPERATION(1, -1, 0), OPERATION(0, 1, 0), OPERATION(0, 2, 0)};
+    static const uint8_t first[] = {3, EAGAIN, 1, 0, 5, ERANGE, 1, 0};
+    static const uint8_t second[] = {7, EAGAIN, 1, 1, 4, ERANGE, 1, 2, 8, 0, 0, 0};
+    host = vairolent_fresh();
+    vairolent_create(&host, 2, VAIROLENT_ALL, VAIROLENT_ALL);
+    told_is("the first sleeper", vairolent_operate(&host, 3, 0, COUNTED(zero)), VAIROLENT_ASLEEP, 1);
+    told_is("the second", vairolent_operate(&host, 5, 0, COUNTED(add)), VAIROLENT_ASLEEP, 1);
+    told_is("a value is set", vairolent_set_value(&host, 0, 0, 32765), 0, NONE);
+    waking_is("EAGAIN, now at the first", 0, 3, EAGAIN, 0);
+    waking_is("ERANGE, now at the first", 1, 5, ERANGE, 0);
+    wakings_are("the bytes of two wakings", COUNTED(first));
+    told_is("the third", vairolent_operate(&host, 7, 0, COUNTED(then_zero)), VAIROLENT_ASLEEP, 0);
+    wakings_are("the bytes of no wakings", first, 0);
+    told_is("the fourth", vairolent_operate(&host, 4, 0, COUNTED(then_add)), VAIROLENT_ASLEEP, 0);
+    told_is("the fifth", operate(8, 0, 1, -1, 0), VAIROLENT_ASLEEP, 0);
+    told_is("one is added", operate(1, 0, 1, 1, 0), 0, NONE);
+    waking_is("EAGAIN, now at the second", 0, 7, EAGAIN, 1);
+    waking_is("ERANGE, now at the third", 1, 4, ERANGE, 2);
+    waking_is("done", 2, 8, 0, NONE);
+    wakings_are("the bytes of three wakings", COUNTED(second));
 }
 
 static void offsets_queried(void)
@@ -286,6 +412,9 @@ int main(void)
     sizes();
     limits();
     offsets_told();
+    positions_of_calls();
+    no_positions();
+    positions_of_wakings();
     offsets_queried();
     offsets_queried_set();
     edges();

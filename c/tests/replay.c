@@ -134,12 +134,25 @@ static struct vairolent_told tell(const uint8_t *body)
     }
 }
 
-/* The rest of an event's line, behind its position. */
+/* A code, with the position of the operation that decided, if one did. */
+static void write_code(int32_t code, struct vairolent_position position)
+{
+    printf("%" PRId32, code);
+    if (position.there)
+        printf("@%d", position.at);
+    want("a position is 0 where there is none", position.there || position.at == 0);
+}
+
+/* The rest of an event's line, behind the event's position. */
 static void write_told(struct vairolent_told told)
 {
-    printf(" %" PRId32 " %" PRIu32 " %zu", told.code, told.value, told.looks);
-    for (size_t i = 0; i < told.woken; i++)
-        printf(" %d=%d", host.wakings[i].process, host.wakings[i].code);
+    putchar(' ');
+    write_code(told.code, told.position);
+    printf(" %" PRIu32 " %zu", told.value, told.looks);
+    for (size_t i = 0; i < told.woken; i++) {
+        printf(" %d=", host.wakings[i].process);
+        write_code(host.wakings[i].code, host.wakings[i].position);
+    }
     putchar('\n');
 }
 

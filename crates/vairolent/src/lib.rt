@@ -1,8 +1,9 @@
 // The service for programs in C and Rust: the archive libvairolent.a, whose functions have the platform's C convention.
 //
 // Each event is lent the parts of a host and hands them on to the service, where it wakes with the quick engine; what it
-// promises is the service's own promise. So does a whole set, which is shown and wakes nobody. Nothing at run time asks for the premise `Held`: a caller in another language keeps
-// it, by handing in the parts of `vairolent_fresh`, as the last event left them.
+// promises is the service's own promise, with what is told as C has it (proofs/Calls.antt). So does a whole set, which is shown and
+// wakes nobody. Nothing at run time asks for the premise `Held`: a caller in another language keeps it, by handing in the parts of
+// `vairolent_fresh`, as the last event left them.
 ghost use mathlib.Core.Path.{_≡_};
 ghost use mathlib.Core.List.{[]};
 ghost use Rattle.model.specs.State.{freshState};
@@ -11,14 +12,16 @@ ghost use Rattle.model.specs.Events.{doCreate, doOperate, doSetValue, doRemove,
 ghost use Rattle.model.specs.WholeSet.{querySet};
 ghost use Rattle.model.specs.declared.Engine.the-variants.{Quick};
 ghost use Rattle.host.specs.Holding.{Held, hostIn, hostOf, stateIn};
-ghost use Rattle.wakings.specs.Wakings.{wakingsIn, listOf};
-ghost use Rattle.service.specs.After.{afterIn, afterOf, queriedOf};
+ghost use Rattle.wakings.specs.Wakings.{placesIn, listOf};
+ghost use Rattle.service.specs.After.{afterOf, queriedOf};
+ghost use Rattle.vairolent.specs.Handed.{decidedOf, reportOf, handedIn, handedOf};
 ghost use Rattle.vairolent.specs.Limits.{theLimits};
 use host::HOST_BYTES;
 use model::ALL_ADJUSTMENTS;
 use model::Engine;
 use model::OPERATIONS;
 use model::PROCESSES;
+use model::Position;
 use model::Queried;
 use model::QueriedSet;
 use model::SEMAPHORES;
@@ -33,6 +36,23 @@ pub struct Fresh {
     pub row: [u8; HOST_BYTES],
     pub adjustments: [i16; ALL_ADJUSTMENTS],
     pub wakings: [u8; WAKING_BYTES],
+}
+
+// The operation that decided: whether there is one, and its position, 0 if there is none.
+#[repr(C)]
+pub struct Decided {
+    pub there: bool,
+    pub at: u8,
+}
+
+// What an event tells.
+#[repr(C)]
+pub struct Reported {
+    pub code: i32,
+    pub value: u32,
+    pub looks: usize,
+    pub woken: usize,
+    pub position: Decided,
 }
 
 // What the archive was built for: the service's limits, and the sizes of a host's row and adjustments.
@@ -65,12 +85,42 @@ pub extern "C" fn vairolent_limits() -> Limits
 #[no_mangle]
 pub extern "C" fn vairolent_fresh() -> Fresh
     ensures { λ r. ⌜ hostIn (r .row) (r .adjustments) ≡ hostOf freshState ⌝ }
-    ensures { λ r. ⌜ wakingsIn (r .wakings) ≡ listOf [] ⌝ }
+    ensures { λ r. ⌜ placesIn (r .wakings) ≡ listOf [] ⌝ }
 {
     Fresh {
         row: host::fresh(),
         adjustments: host::no_adjustments(),
         wakings: [0u8; WAKING_BYTES],
+    }
+}
+
+// The operation that decided, as C has it.
+fn decided_of(position: Position) -> Decided
+    ensures { λ r. ⌜ r ≡ decidedOf position ⌝ }
+{
+    match position {
+        Position::Nowhere => Decided {
+            there: false,
+            at: 0,
+        },
+        Position::At(number) => Decided {
+            there: true,
+            at: number,
+        },
+    }
+}
+
+// What an event tells, as C has it.
+fn report(told: Told) -> Reported
+    ensures { λ r. ⌜ r ≡ reportOf told ⌝ }
+{
+    let position = told.position;
+    Reported {
+        code: told.code,
+        value: told.value,
+        looks: told.looks,
+        woken: told.woken,
+        position: decided_of(position),
     }
 }
 
@@ -82,11 +132,11 @@ pub extern "C" fn vairolent_create_in(
     count: u8,
     read: u8,
     alter: u8,
-) -> Told
+) -> Reported
     requires { ⌜ Held (hostIn (now row) (now adjustments)) ⌝ }
-    ensures { λ r. ⌜ afterIn (now (row .exit)) (now (adjustments .exit)) (now (wakings .exit)) r ≡ afterOf (doCreate (stateIn (hostIn (now (row .entry)) (now (adjustments .entry)))) count read alter) ⌝ }
+    ensures { λ r. ⌜ handedIn (now (row .exit)) (now (adjustments .exit)) (now (wakings .exit)) r ≡ handedOf (afterOf (doCreate (stateIn (hostIn (now (row .entry)) (now (adjustments .entry)))) count read alter)) ⌝ }
 {
-    service::create(row, adjustments, wakings, count, read, alter)
+    report(service::create(row, adjustments, wakings, count, read, alter))
 }
 
 #[no_mangle]
@@ -97,11 +147,11 @@ pub extern "C" fn vairolent_operate_in(
     process: u8,
     identifier: i32,
     operations: &[u8],
-) -> Told
+) -> Reported
     requires { ⌜ Held (hostIn (now row) (now adjustments)) ⌝ }
-    ensures { λ r. ⌜ afterIn (now (row .exit)) (now (adjustments .exit)) (now (wakings .exit)) r ≡ afterOf (doOperate (waker Quick) (stateIn (hostIn (now (row .entry)) (now (adjustments .entry)))) process identifier (now (operations .entry))) ⌝ }
+    ensures { λ r. ⌜ handedIn (now (row .exit)) (now (adjustments .exit)) (now (wakings .exit)) r ≡ handedOf (afterOf (doOperate (waker Quick) (stateIn (hostIn (now (row .entry)) (now (adjustments .entry)))) process identifier (now (operations .entry)))) ⌝ }
 {
-    service::operate(
+    report(service::operate(
         row,
         adjustments,
         wakings,
@@ -109,7 +159,7 @@ pub extern "C" fn vairolent_operate_in(
         process,
         identifier,
         operations,
-    )
+    ))
 }
 
 #[no_mangle]
@@ -120,11 +170,11 @@ pub extern "C" fn vairolent_set_value_in(
     identifier: i32,
     number: u16,
     value: i32,
-) -> Told
+) -> Reported
     requires { ⌜ Held (hostIn (now row) (now adjustments)) ⌝ }
-    ensures { λ r. ⌜ afterIn (now (row .exit)) (now (adjustments .exit)) (now (wakings .exit)) r ≡ afterOf (doSetValue (waker Quick) (stateIn (hostIn (now (row .entry)) (now (adjustments .entry)))) identifier number value) ⌝ }
+    ensures { λ r. ⌜ handedIn (now (row .exit)) (now (adjustments .exit)) (now (wakings .exit)) r ≡ handedOf (afterOf (doSetValue (waker Quick) (stateIn (hostIn (now (row .entry)) (now (adjustments .entry)))) identifier number value)) ⌝ }
 {
-    service::set_value(
+    report(service::set_value(
         row,
         adjustments,
         wakings,
@@ -132,7 +182,7 @@ pub extern "C" fn vairolent_set_value_in(
         identifier,
         number,
         value,
-    )
+    ))
 }
 
 #[no_mangle]
@@ -141,11 +191,11 @@ pub extern "C" fn vairolent_remove_in(
     adjustments: &mut [i16; ALL_ADJUSTMENTS],
     wakings: &mut [u8; WAKING_BYTES],
     identifier: i32,
-) -> Told
+) -> Reported
     requires { ⌜ Held (hostIn (now row) (now adjustments)) ⌝ }
-    ensures { λ r. ⌜ afterIn (now (row .exit)) (now (adjustments .exit)) (now (wakings .exit)) r ≡ afterOf (doRemove (stateIn (hostIn (now (row .entry)) (now (adjustments .entry)))) identifier) ⌝ }
+    ensures { λ r. ⌜ handedIn (now (row .exit)) (now (adjustments .exit)) (now (wakings .exit)) r ≡ handedOf (afterOf (doRemove (stateIn (hostIn (now (row .entry)) (now (adjustments .entry)))) identifier)) ⌝ }
 {
-    service::remove(row, adjustments, wakings, identifier)
+    report(service::remove(row, adjustments, wakings, identifier))
 }
 
 #[no_mangle]
@@ -154,11 +204,11 @@ pub extern "C" fn vairolent_signal_in(
     adjustments: &mut [i16; ALL_ADJUSTMENTS],
     wakings: &mut [u8; WAKING_BYTES],
     process: u8,
-) -> Told
+) -> Reported
     requires { ⌜ Held (hostIn (now row) (now adjustments)) ⌝ }
-    ensures { λ r. ⌜ afterIn (now (row .exit)) (now (adjustments .exit)) (now (wakings .exit)) r ≡ afterOf (doSignal (stateIn (hostIn (now (row .entry)) (now (adjustments .entry)))) process) ⌝ }
+    ensures { λ r. ⌜ handedIn (now (row .exit)) (now (adjustments .exit)) (now (wakings .exit)) r ≡ handedOf (afterOf (doSignal (stateIn (hostIn (now (row .entry)) (now (adjustments .entry)))) process)) ⌝ }
 {
-    service::signal(row, adjustments, wakings, process)
+    report(service::signal(row, adjustments, wakings, process))
 }
 
 #[no_mangle]
@@ -167,11 +217,11 @@ pub extern "C" fn vairolent_exit_in(
     adjustments: &mut [i16; ALL_ADJUSTMENTS],
     wakings: &mut [u8; WAKING_BYTES],
     process: u8,
-) -> Told
+) -> Reported
     requires { ⌜ Held (hostIn (now row) (now adjustments)) ⌝ }
-    ensures { λ r. ⌜ afterIn (now (row .exit)) (now (adjustments .exit)) (now (wakings .exit)) r ≡ afterOf (doExit (waker Quick) (stateIn (hostIn (now (row .entry)) (now (adjustments .entry)))) process) ⌝ }
+    ensures { λ r. ⌜ handedIn (now (row .exit)) (now (adjustments .exit)) (now (wakings .exit)) r ≡ handedOf (afterOf (doExit (waker Quick) (stateIn (hostIn (now (row .entry)) (now (adjustments .entry)))) process)) ⌝ }
 {
-    service::exit(row, adjustments, wakings, Engine::Quick, process)
+    report(service::exit(row, adjustments, wakings, Engine::Quick, process))
 }
 
 #[no_mangle]

@@ -38,17 +38,17 @@ placesIn l = placesFrom processes 0 l
 -- ---- wakings
 
 -- whether an operation decided, as a number; and its position, 0 if none did
-abbrev pub decidedOf : Position → ℕ
-decidedOf Nowhere = 0
-decidedOf (At k) = 1
+abbrev pub decidedByte : Position → ℕ
+decidedByte Nowhere = 0
+decidedByte (At k) = 1
 
-abbrev pub numberOf : Position → ℕ
-numberOf Nowhere = 0
-numberOf (At k) = k
+abbrev pub positionByte : Position → ℕ
+positionByte Nowhere = 0
+positionByte (At k) = k
 
 -- a waking as a place has it
 abbrev pub placeOf : Waking → Place
-placeOf w = record { process = w .process; code = w .code; decided = decidedOf (w .position); position = numberOf (w .position) }
+placeOf w = record { process = w .process; code = w .code; decided = decidedByte (w .position); position = positionByte (w .position) }
 
 -- .. and the waking that a place has
 abbrev pub positionIn : ℕ → ℕ → Position

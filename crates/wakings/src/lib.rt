@@ -9,7 +9,7 @@ ghost use mathlib.Core.List.{[]};
 ghost use lib.ListN.{getD, set};
 ghost use lib.IntN.{pos};
 ghost use Rattle.model.specs.Waking.{waking};
-ghost use Rattle.wakings.specs.Wakings.{placesIn, placeOf, wakingIn, noWaking, listOf, decidedOf, numberOf};
+ghost use Rattle.wakings.specs.Wakings.{placesIn, placeOf, wakingIn, noWaking, listOf, decidedByte, positionByte};
 use model::ONE_WAKING;
 use model::PROCESSES;
 use model::Position;
@@ -23,8 +23,8 @@ pub fn clear(list: &mut [u8; WAKING_BYTES])
 }
 
 // Whether an operation decided.
-fn decided_of(position: Position) -> u8
-    ensures { λ r. ⌜ r ≡ decidedOf position ⌝ }
+fn decided_byte(position: Position) -> u8
+    ensures { λ r. ⌜ r ≡ decidedByte position ⌝ }
 {
     match position {
         Position::Nowhere => 0,
@@ -33,8 +33,8 @@ fn decided_of(position: Position) -> u8
 }
 
 // Its position, 0 if none did.
-fn number_of(position: Position) -> u8
-    ensures { λ r. ⌜ r ≡ numberOf position ⌝ }
+fn position_byte(position: Position) -> u8
+    ensures { λ r. ⌜ r ≡ positionByte position ⌝ }
 {
     match position {
         Position::Nowhere => 0,
@@ -43,13 +43,7 @@ fn number_of(position: Position) -> u8
 }
 
 // Writes a waking to a place; beyond the last nothing is written.
-pub fn note(
-    list: &mut [u8; WAKING_BYTES],
-    count: usize,
-    process: u8,
-    code: u8,
-    position: Position,
-)
+pub fn note(list: &mut [u8; WAKING_BYTES], count: usize, process: u8, code: u8, position: Position)
     ensures { λ _. ⌜ placesIn (now (list .exit)) ≡ set (placesIn (now (list .entry))) count (placeOf (waking process (pos code) position)) ⌝ }
 {
     let all: &mut [u8] = list;
@@ -57,8 +51,8 @@ pub fn note(
         let at = ONE_WAKING * count;
         all[at] = process;
         all[at + 1] = code;
-        all[at + 2] = decided_of(position);
-        all[at + 3] = number_of(position);
+        all[at + 2] = decided_byte(position);
+        all[at + 3] = position_byte(position);
     }
 }
 

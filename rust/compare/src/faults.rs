@@ -1,7 +1,7 @@
 //! The fault check: copies of the second program with one fault each are told apart.
 //!
-//! A fault is a file of four lines: `#` and the error in words, `file:` a file in src, `old:` a line
-//! that stands in it once, `new:` the line that takes its place.
+//! A fault is a file: `#` and the error in words, then three lines for each change, `file:` a file in
+//! src, `old:` a line that stands in it once, `new:` the line that takes its place.
 
 use std::fs;
 use std::path::{Path, PathBuf};
@@ -19,10 +19,15 @@ const FILES: u64 = 1_500;
 /// Once one rule has shown a fault, the other gets this many files at most: it may be right.
 const OTHER_RULE: usize = 100;
 
-/// One fault: in a source file, a line that stands there once becomes another.
+/// One fault, and the changes that make it.
 struct Edit {
     name: String,
     words: String,
+    changes: Vec<Change>,
+}
+
+/// In a source file, a line that stands there once becomes another.
+struct Change {
     file: String,
     old: String,
     new: String,
@@ -79,23 +84,21 @@ fn read_edits(folder: &Path) -> Result<Vec<Edit>, String> {
 fn read_edit(path: &Path) -> Result<Edit, String> {
     let in_file = |words: &str| format!("{}: {words}", path.display());
     let text = fs::read_to_string(path).map_err(|error| in_file(&error.to_string()))?;
-    let mut lines = text.lines();
-    let mut field = |start: &str| {
-        let rest = lines.next().and_then(|line| line.strip_prefix(start));
-        rest.map(|rest| rest.trim().to_string()).ok_or(in_file(&format!("no line {start:?} next")))
+    let lines: Vec<&str> = text.lines().collect();
+    let field = |index: usize, start: &str| {
+        let rest = lines.get(index).and_then(|line| line.strip_prefix(start));
+        let lacking = in_file(&format!("line {} does not begin with {start:?}", index + 1));
+        rest.map(|rest| rest.trim().to_string()).ok_or(lacking)
+    };
+    let change = |index| {
+        let file = field(index, "file:")?;
+        Ok(Change { file, old: field(index + 1, "old:")?, new: field(index + 2, "new:")? })
     };
     let name = path.file_stem().unwrap_or_default().to_string_lossy().into_owned();
-    let edit = Edit {
-        name,
-        words: field("#")?,
-        file: field("file:")?,
-        old: field("old:")?,
-        new: field("new:")?,
-    };
-    match lines.next() {
-        None => Ok(edit),
-        Some(_) => Err(in_file("more lines than four")),
-    }
+    let words = field(0, "#")?;
+    // There is one change at least.
+    let changes = (1..lines.len().max(2)).step_by(3).map(change).collect::<Result<_, String>>()?;
+    Ok(Edit { name, words, changes })
 }
 
 /// Builds the faulty copy and says after how many files each rule shows the fault.
@@ -131,7 +134,9 @@ fn check_edit(
 /// Copies the package, puts the fault in, and builds it.
 fn build(edit: &Edit, source: &Path, folder: &Path) -> Result<PathBuf, String> {
     copy(source, folder).map_err(|error| format!("no copy: {error}"))?;
-    apply(edit, &folder.join("src").join(&edit.file))?;
+    for change in &edit.changes {
+        apply(change, &folder.join("src").join(&change.file))?;
+    }
     let built = Command::new("cargo")
         .args(["build", "--release", "--offline", "--quiet", "--jobs", "1", "--bin", "second"])
         .arg("--target-dir")
@@ -163,14 +168,14 @@ fn copy(source: &Path, folder: &Path) -> std::io::Result<()> {
 }
 
 /// Puts the new line where the old one stands; indentation doesn't count.
-fn apply(edit: &Edit, path: &Path) -> Result<(), String> {
-    let in_file = |error| format!("{}: {error}", edit.file);
+fn apply(change: &Change, path: &Path) -> Result<(), String> {
+    let in_file = |error| format!("{}: {error}", change.file);
     let text = fs::read_to_string(path).map_err(in_file)?;
-    let found = text.lines().filter(|line| line.trim() == edit.old).count();
+    let found = text.lines().filter(|line| line.trim() == change.old).count();
     if found != 1 {
-        return Err(format!("{}: the old line stands there {found} times, not once", edit.file));
+        return Err(format!("{}: the old line stands there {found} times, not once", change.file));
     }
-    let change = |line| if str::trim(line) == edit.old { edit.new.as_str() } else { line };
-    let lines: Vec<&str> = text.lines().map(change).collect();
+    let changed = |line| if str::trim(line) == change.old { change.new.as_str() } else { line };
+    let lines: Vec<&str> = text.lines().map(changed).collect();
     fs::write(path, lines.join("\n") + "\n").map_err(in_file)
 }

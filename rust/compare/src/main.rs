@@ -5,12 +5,15 @@
 mod check;
 mod choice;
 mod damage;
+mod deciding;
 mod end;
 mod events;
 mod faults;
 mod kind;
+mod line;
 mod medley;
 mod options;
+mod positions;
 mod program;
 mod random;
 mod scene;

@@ -1,5 +1,6 @@
 //! The scripts as kinds of files, and a medley of them all.
 
+use crate::deciding;
 use crate::kind::Kind;
 use crate::kind::Make::Script;
 use crate::scene::Scene;
@@ -7,7 +8,7 @@ use crate::script;
 
 pub static MEDLEY: Kind = Kind::new("medley", Script(play), "episodes of all the scripts below");
 
-pub static SCRIPTS: [Kind; 14] = [
+pub static SCRIPTS: [Kind; 15] = [
     Kind::new("mixed", Script(script::mixed), "everyday traffic"),
     Kind::new("dense", Script(script::dense), "seven and eight asleep, and what wakes them"),
     Kind::new("chains", Script(script::chain), "wake chains as in situation 11"),
@@ -22,6 +23,7 @@ pub static SCRIPTS: [Kind; 14] = [
     Kind::new("queries", Script(script::queries), "queries with sleepers at every semaphore"),
     Kind::new("seven", Script(script::seven_asleep), "seven processes asleep all along"),
     Kind::new("random", Script(script::random), "good bodies, not steered"),
+    Kind::new("deciding", Script(deciding::deciding), "arrays that any operation decides"),
 ];
 
 /// Draws of a script; those beyond the last play nothing. With another number of them a seed would

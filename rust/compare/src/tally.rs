@@ -1,11 +1,14 @@
 //! Counts what came, and says what never came.
 
 use std::collections::BTreeMap;
+use std::fmt::Display;
 
 use second::RunFile;
 
-use crate::check::Texts;
+use crate::check::{Difference, Texts};
 use crate::events::{self, EventKind, EVENTS};
+use crate::line::Line;
+use crate::positions::{Decision, Positions, DECISIONS};
 use crate::zeros::{When, Zeros, WHENS};
 
 const BAD: [i32; 4] = [201, 202, 203, 204];
@@ -27,17 +30,19 @@ pub struct Tally {
     wakings: Counts<(usize, i32)>,
     quick_looks: Counts<i32>,
     plain_looks: Counts<i32>,
+    /// What was decided, and at which operation.
+    decided: Counts<(Decision, u8)>,
     /// Queries that show a last process set by an amount of 0.
     by_zero: Counts<When>,
 }
 
-fn number(field: Option<&str>) -> i32 {
-    field.and_then(|field| field.parse().ok()).unwrap_or(i32::MIN)
+fn no_line(text: &str) -> Difference {
+    format!("all of them write what is no line: {text:?}")
 }
 
 impl Tally {
     /// Counts one file by the texts that the programs agreed on.
-    pub fn add(&mut self, file: &[u8], texts: &Texts) {
+    pub fn add(&mut self, file: &[u8], texts: &Texts) -> Result<(), Difference> {
         self.files += 1;
         self.long += u64::from(file.len() > LONG);
         self.bytes += file.len() as u64;
@@ -46,30 +51,37 @@ impl Tally {
         let mut lines = quick.lines().zip(plain.lines());
         let first = lines.next().map_or("", |(first, _)| first);
         if let Some(code) = first.strip_prefix("bad ") {
-            *self.bad.entry(number(Some(code))).or_default() += 1;
+            let code = code.parse().map_err(|_| no_line(first))?;
+            *self.bad.entry(code).or_default() += 1;
         } else if let Ok(run) = RunFile::read(file) {
-            let mut zeros = Zeros::default();
+            let (mut zeros, mut positions) = (Zeros::default(), Positions::default());
             for ((body, event), (quick, plain)) in run.bodies().zip(run.events()).zip(lines) {
-                self.add_line(events::place(body), quick, plain);
-                if let Some(when) = zeros.follow(event, quick) {
+                let quick = Line::read(quick).ok_or_else(|| no_line(quick))?;
+                let plain = Line::read(plain).ok_or_else(|| no_line(plain))?;
+                self.add_line(events::place(body), &quick, &plain);
+                for decision in positions.follow(event, &quick) {
+                    *self.decided.entry(decision).or_default() += 1;
+                }
+                if let Some(when) = zeros.follow(event, &quick) {
                     *self.by_zero.entry(when).or_default() += 1;
                 }
             }
         }
+        Ok(())
     }
 
-    fn add_line(&mut self, event: usize, quick: &str, plain: &str) {
+    fn add_line(&mut self, event: usize, quick: &Line, plain: &Line) {
         self.events += 1;
-        let mut fields = quick.split(' ').skip(1);
-        *self.codes.entry((event, number(fields.next()))).or_default() += 1;
+        *self.codes.entry((event, quick.code.number)).or_default() += 1;
         if EVENTS[event].asks {
             return;
         }
-        *self.quick_looks.entry(number(fields.nth(1))).or_default() += 1;
-        *self.plain_looks.entry(number(plain.split(' ').nth(3))).or_default() += 1;
-        for waking in fields {
-            let code = number(waking.split('=').nth(1));
-            *self.wakings.entry((event, code)).or_default() += 1;
+        if let ([_, quick], [_, plain]) = (&quick.numbers[..], &plain.numbers[..]) {
+            *self.quick_looks.entry(*quick).or_default() += 1;
+            *self.plain_looks.entry(*plain).or_default() += 1;
+        }
+        for (_, code) in &quick.wakings {
+            *self.wakings.entry((event, code.number)).or_default() += 1;
         }
     }
 
@@ -83,6 +95,7 @@ impl Tally {
         add_all(&mut self.wakings, other.wakings);
         add_all(&mut self.quick_looks, other.quick_looks);
         add_all(&mut self.plain_looks, other.plain_looks);
+        add_all(&mut self.decided, other.decided);
         add_all(&mut self.by_zero, other.by_zero);
     }
 
@@ -99,13 +112,16 @@ impl Tally {
             }
         };
         for (index, event) in EVENTS.iter().enumerate() {
-            row(&format!("{}: codes", event.name), entries(of_event(&self.codes, index)));
+            row(&format!("{}: codes", event.name), entries(of(&self.codes, index)));
         }
         for (index, event) in EVENTS.iter().enumerate() {
-            let wakings = entries(of_event(&self.wakings, index));
+            let wakings = entries(of(&self.wakings, index));
             if !wakings.is_empty() {
                 row(&format!("{}: wakings", event.name), wakings);
             }
+        }
+        for (decision, name, _) in DECISIONS {
+            row(name, entries(of(&self.decided, decision)));
         }
         row("looks, quick rule", entries(self.quick_looks.iter()));
         row("looks, plain rule", entries(self.plain_looks.iter()));
@@ -127,6 +143,10 @@ impl Tally {
             let wakings = wakings.iter().filter(|code| lacking(&self.wakings, code));
             missing.extend(wakings.map(|code| format!("a waking with {code} by {name}")));
         }
+        for (decision, name, positions) in DECISIONS {
+            let lacking = positions.filter(|at| !self.decided.contains_key(&(decision, *at)));
+            missing.extend(lacking.map(|at| format!("{name} {at}")));
+        }
         let whens = WHENS.iter().filter(|(when, _)| !self.by_zero.contains_key(when));
         missing.extend(whens.map(|(_, name)| format!("a last process set by 0 {name}")));
         let bad = BAD.iter().filter(|code| !self.bad.contains_key(code));
@@ -144,15 +164,16 @@ fn add_all<K: Ord>(counts: &mut Counts<K>, others: Counts<K>) {
     }
 }
 
-fn of_event(counts: &Counts<(usize, i32)>, event: usize) -> impl Iterator<Item = (&i32, &u64)> {
+/// The counts of one event or decision.
+fn of<K: PartialEq, N>(counts: &Counts<(K, N)>, wanted: K) -> impl Iterator<Item = (&N, &u64)> {
     counts
         .iter()
-        .filter(move |((index, _), _)| *index == event)
-        .map(|((_, code), count)| (code, count))
+        .filter(move |((key, _), _)| *key == wanted)
+        .map(|((_, number), count)| (number, count))
 }
 
 /// Each code or number with how often it came, some to a line.
-fn entries<'a>(counts: impl Iterator<Item = (&'a i32, &'a u64)>) -> String {
+fn entries<'a, N: Display + 'a>(counts: impl Iterator<Item = (&'a N, &'a u64)>) -> String {
     let entries: Vec<String> =
         counts.map(|(number, count)| format!("{number:>3}: {count:<7} ")).collect();
     let lines: Vec<String> = entries.chunks(6).map(|some| some.concat()).collect();

@@ -30,9 +30,9 @@ pub fn run(arguments: &[String]) -> Result<End, String> {
     let seen = work::share(files, "files", |seen: &mut Seen, index| {
         let file = all.get(index).bytes;
         let feed = if index % 16 == 5 { Feed::Pieces } else { Feed::Whole };
-        match programs.compare(&file, feed) {
-            Ok(texts) => seen.tally.add(&file, &texts),
-            Err(difference) => seen.difference = Some((index, difference)),
+        let texts = programs.compare(&file, feed);
+        if let Err(difference) = texts.and_then(|texts| seen.tally.add(&file, &texts)) {
+            seen.difference = Some((index, difference));
         }
         seen.difference.is_none()
     });

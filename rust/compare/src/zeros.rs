@@ -4,6 +4,8 @@
 use second::event::OPERATION;
 use second::Event;
 
+use crate::line::Line;
+
 /// When an array was done.
 #[derive(Clone, Copy, Debug, Default, PartialEq, Eq, PartialOrd, Ord)]
 pub enum When {
@@ -33,29 +35,26 @@ fn slot_of(identifier: i32) -> usize {
 
 impl<'a> Zeros<'a> {
     /// Follows one event. For a query that shows a last process set by an amount of 0: when it was.
-    pub fn follow(&mut self, event: Event<'a>, line: &str) -> Option<When> {
-        let (fields, wakings): (Vec<_>, Vec<_>) =
-            line.split(' ').skip(1).partition(|field| !field.contains('='));
-        let numbers: Vec<i32> = fields.iter().map_while(|field| field.parse().ok()).collect();
-        match (event, &numbers[..]) {
-            (Event::Create { .. }, [0, identifier, ..]) => {
+    pub fn follow(&mut self, event: Event<'a>, line: &Line) -> Option<When> {
+        match (event, line.code.number, &line.numbers[..]) {
+            (Event::Create { .. }, 0, [identifier, ..]) => {
                 self.without[slot_of(*identifier)] = [0; 8];
             }
-            (Event::Operate { process, identifier, operations }, [code @ -1..=0, ..]) => {
+            (Event::Operate { process, identifier, operations }, code @ -1..=0, _) => {
                 self.calls[usize::from(process)] = (slot_of(identifier), operations);
-                if *code == 0 {
+                if code == 0 {
                     self.done(process, When::AtOnce);
                 }
             }
-            (Event::Query { identifier, number }, [0, _, last, ..]) => {
+            (Event::Query { identifier, number }, 0, [_, last, ..]) => {
                 let (slot, number) = (slot_of(identifier), usize::from(number));
                 let shows = *last != i32::from(self.without[slot][number]);
                 return shows.then_some(self.named[slot][number]);
             }
             _ => {}
         }
-        for woken in wakings.iter().filter_map(|waking| waking.strip_suffix("=0")) {
-            self.done(woken.parse().ok()?, When::AtWaking);
+        for (process, _) in line.wakings.iter().filter(|(_, code)| code.number == 0) {
+            self.done(*process, When::AtWaking);
         }
         None
     }
@@ -86,7 +85,8 @@ mod tests {
         let run = RunFile::read(&file).expect("a good file");
         let mut zeros = Zeros::default();
         let all = run.events().zip(text.lines().skip(1));
-        let shown = all.map(|(event, line)| (event, zeros.follow(event, line)));
+        let read = |line| Line::read(line).expect("the form of a line");
+        let shown = all.map(|(event, line)| (event, zeros.follow(event, &read(line))));
         let queries = shown.filter(|(event, _)| matches!(event, Event::Query { .. }));
         queries.map(|(_, when)| when).collect()
     }

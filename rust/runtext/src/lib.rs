@@ -2,13 +2,14 @@
 //!
 //! A text has one event a line (the grammar stands in `parse`); text and run file turn into each
 //! other exactly. A story shows a replay event by event: what was asked, what the program
-//! answered, who woke, and the values after it.
+//! answered, at which operation a call stopped and why, who woke, and the values after it.
 //!
 //! Data goes one way: text or bytes to events (`parse`, `runfile`), events to bytes or text
 //! (`runfile`, `print`). A story hands bytes to the program, reads its lines (`answer`), and puts
 //! queries behind the events (`questions`) to learn the values. What the kinds of events are stands
-//! in `event`; texts, bodies and the help go by that. No rule of the service is in here: what a
-//! story shows is what the program wrote.
+//! in `event`; texts, bodies and the help go by that. What a story shows is what the program wrote.
+//! One rule of the service is in here, to say at which value an operation decided (`decided`,
+//! `sleepers`): an array is judged in order, and one that is applied adds its amounts.
 
 #![forbid(unsafe_code)]
 
@@ -16,6 +17,7 @@ mod answer;
 mod body;
 mod codes;
 mod count;
+mod decided;
 pub mod event;
 mod field;
 pub mod help;
@@ -27,8 +29,11 @@ pub mod print;
 pub mod program;
 mod questions;
 mod refusal;
+mod rows;
 pub mod runfile;
 mod scan;
+mod scene;
+mod sleepers;
 pub mod story;
 mod words;
 

@@ -61,6 +61,12 @@ fn flag_names(flags: u16) -> Vec<String> {
     names
 }
 
+/// What the operations add to a semaphore together.
+pub fn added(operations: &[Operation], number: u16) -> i32 {
+    let there = operations.iter().filter(|operation| operation.number == number);
+    there.map(|operation| i32::from(operation.amount)).sum()
+}
+
 impl Operation {
     pub fn in_words(&self) -> String {
         let number = self.number;
@@ -113,6 +119,15 @@ mod tests {
         assert_eq!(text("1:3/0x0"), "1:+3");
         assert_eq!(text("2:-0/nowait,undo"), "2:0/undo,nowait");
         assert_eq!(text("2:+1/0x1807"), "2:+1/undo,nowait,0x0007");
+    }
+
+    #[test]
+    fn amounts_on_one_semaphore_are_added() {
+        let operations = ["0:-32768", "1:+5", "0:-32768", "0:+3", "0:0"];
+        let operations = operations.map(|text| operation(text).expect("an operation"));
+        assert_eq!(added(&operations, 0), -65_533);
+        assert_eq!(added(&operations, 1), 5);
+        assert_eq!(added(&operations, 2), 0);
     }
 
     #[test]

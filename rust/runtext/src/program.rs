@@ -80,8 +80,8 @@ mod tests {
     fn texts_of_a_replay() {
         assert_eq!(read("bad 202\n"), Some(Replay::Refused(202)));
         assert_eq!(read("events 0\n"), Some(Replay::Lines(vec![])));
-        let lines = vec!["0 0 0".to_string(), "-1 0 0".to_string()];
-        assert_eq!(read("events 2\n0 0 0 0\n1 -1 0 0\n"), Some(Replay::Lines(lines)));
+        let lines = vec!["0 0 0".to_string(), "-1@0 0 0".to_string()];
+        assert_eq!(read("events 2\n0 0 0 0\n1 -1@0 0 0\n"), Some(Replay::Lines(lines)));
     }
 
     #[test]

@@ -92,7 +92,7 @@ mod tests {
     use super::*;
 
     fn report(code: i32, value: i32) -> Answer {
-        Answer::Report { code, value, looks: 0, wakings: vec![] }
+        Answer::Report { code, position: None, value, looks: 0, wakings: vec![] }
     }
 
     /// Creates of which the last one finds no slot, then a removal.

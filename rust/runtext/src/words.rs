@@ -1,18 +1,17 @@
 //! Answers in words.
 
 use crate::answer::{Answer, State, Waking};
-use crate::codes;
+use crate::codes::{self, OUT_OF_RANGE};
 use crate::count::counted;
 use crate::event::Event;
 
-/// The answer by the name of its code, with all else that the line has but its wakings.
-pub fn answer(event: &Event, answer: &Answer) -> String {
-    let mut words = codes::name(answer.code());
+/// The answer by the name of its code, with all else that the line has but its wakings, and with
+/// why the operation that it names decided, where that is known.
+pub fn answer(event: &Event, answer: &Answer, why: Option<String>) -> String {
+    let meaning = event.why_refused(answer.code());
+    let mut words = coded(answer.code(), answer.position(), why, meaning);
     if answer.code() > 0 {
         words = format!("refused: {words}");
-        if let Some(why) = event.why_refused(answer.code()) {
-            words += &format!(", {why}");
-        }
     }
     match answer {
         Answer::Report { code, value, looks, .. } => {
@@ -41,7 +40,71 @@ pub fn waiting(state: &State) -> String {
     format!("{} for increase, {} for zero", state.for_increase, state.for_zero)
 }
 
-pub fn waking(waking: &Waking) -> String {
-    let words = format!("process {}: {}", waking.process, codes::name(waking.code));
-    codes::why_ended(waking.code).map_or(words.clone(), |why| format!("{words}, {why}"))
+/// The waking, with why the operation that it names decided, where that is known.
+pub fn waking(waking: &Waking, why: Option<String>) -> String {
+    let meaning = codes::why_ended(waking.code);
+    let words = coded(waking.code, waking.position, why, meaning);
+    format!("process {}: {words}", waking.process)
+}
+
+/// A code by its name, the operation that decided and why, and what the code means here.
+fn coded(code: i32, position: Option<usize>, why: Option<String>, meaning: Option<&str>) -> String {
+    let mut words = codes::name(code);
+    if let Some(position) = position {
+        words += &format!(" at operation {position}");
+    }
+    match (why, meaning) {
+        // Why says already which of them it is.
+        (Some(why), None | Some(OUT_OF_RANGE)) => format!("{words}: {why}"),
+        (Some(why), Some(meaning)) => format!("{words}: {why}; {meaning}"),
+        (None, Some(meaning)) => format!("{words}, {meaning}"),
+        (None, None) => words,
+    }
+}
+
+#[cfg(test)]
+mod tests {
+    use super::*;
+
+    fn told(event: &Event, code: i32, position: Option<usize>, why: &str) -> String {
+        let report = Answer::Report { code, position, value: 0, looks: 0, wakings: vec![] };
+        answer(event, &report, Some(why.to_string()).filter(|why| !why.is_empty()))
+    }
+
+    #[test]
+    fn answers_with_the_operation_that_decided() {
+        let operate = Event::Operate { process: 1, identifier: 0, operations: vec![] };
+        let nowait = "it would have to sleep, but nowait is given";
+        for (code, position, why, wanted) in [
+            (-1, None, "", "asleep (-1)".to_string()),
+            (-1, Some(0), "", "asleep (-1) at operation 0".to_string()),
+            (-1, Some(0), "so", "asleep (-1) at operation 0: so".to_string()),
+            (11, None, "", format!("refused: EAGAIN (11), {nowait}")),
+            (11, Some(1), "", format!("refused: EAGAIN (11) at operation 1, {nowait}")),
+            (11, Some(1), "so", format!("refused: EAGAIN (11) at operation 1: so; {nowait}")),
+            (34, Some(2), "", format!("refused: ERANGE (34) at operation 2, {OUT_OF_RANGE}")),
+            (34, Some(2), "so", "refused: ERANGE (34) at operation 2: so".to_string()),
+        ] {
+            assert_eq!(told(&operate, code, position, why), wanted);
+        }
+        let set_value = Event::SetValue { identifier: 0, number: 0, value: 40_000 };
+        let wanted = "refused: ERANGE (34), the value isn't 0 to 32767";
+        assert_eq!(told(&set_value, 34, None, ""), wanted);
+    }
+
+    #[test]
+    fn wakings_with_the_operation_that_decided() {
+        let nowait = "it stops now where nowait is given";
+        for (code, position, why, wanted) in [
+            (0, None, None, "done (0)".to_string()),
+            (4, None, None, "EINTR (4), by the signal".to_string()),
+            (11, Some(1), None, format!("EAGAIN (11) at operation 1, {nowait}")),
+            (11, Some(1), Some("so"), format!("EAGAIN (11) at operation 1: so; {nowait}")),
+            (34, Some(2), None, format!("ERANGE (34) at operation 2, {OUT_OF_RANGE}")),
+            (34, Some(2), Some("so"), "ERANGE (34) at operation 2: so".to_string()),
+        ] {
+            let words = waking(&Waking { process: 3, code, position }, why.map(str::to_string));
+            assert_eq!(words, format!("process 3: {wanted}"));
+        }
+    }
 }

@@ -1,6 +1,7 @@
 //! What an event returns.
 
 use crate::errno::Errno;
+use crate::position::Position;
 use crate::process::{Process, PROCESSES};
 
 /// The code of a call that sleeps.
@@ -17,6 +18,8 @@ pub enum Answer {
 #[derive(Clone, Copy, Debug, Default)]
 pub struct Report {
     pub code: i32,
+    /// The position of the operation that decided, where judging gave -1, 11 or 34.
+    pub position: Option<Position>,
     pub value: i32,
     pub looks: u32,
     pub wakings: Wakings,
@@ -40,11 +43,13 @@ pub struct SetState {
     pub judged: u32,
 }
 
-/// A sleeper that an event finished: its process number and the code it ended with.
+/// A sleeper that an event finished: its process number, the code it ended with and, where a look
+/// gave 11 or 34, the position of the operation that decided.
 #[derive(Clone, Copy, Debug, Default)]
 pub struct Waking {
     pub process: u8,
     pub code: u8,
+    pub position: Option<Position>,
 }
 
 /// The wakings of one event, in order. No process is woken twice in an event.
@@ -65,28 +70,28 @@ impl Answer {
 
 impl From<Result<Report, Errno>> for Answer {
     fn from(result: Result<Report, Errno>) -> Answer {
-        Answer::Event(result.unwrap_or_else(|errno| Report::with_code(errno.number().into())))
+        let refused = |errno: Errno| Report { code: errno.number().into(), ..Report::default() };
+        Answer::Event(result.unwrap_or_else(refused))
     }
 }
 
 impl From<Result<State, Errno>> for Answer {
     fn from(result: Result<State, Errno>) -> Answer {
-        Answer::Query(
-            result
-                .unwrap_or_else(|errno| State { code: errno.number().into(), ..State::default() }),
-        )
+        let refused = |errno: Errno| State { code: errno.number().into(), ..State::default() };
+        Answer::Query(result.unwrap_or_else(refused))
     }
 }
 
 impl Report {
-    pub(crate) fn with_code(code: i32) -> Report {
-        Report { code, ..Report::default() }
+    /// Nothing is done: the operation at this position decided.
+    pub(crate) fn decided_at(position: Position, code: i32) -> Report {
+        Report { code, position: Some(position), ..Report::default() }
     }
 }
 
 impl Wakings {
-    pub(crate) fn push(&mut self, process: Process, code: u8) {
-        self.list[self.length] = Waking { process: process.number(), code };
+    pub(crate) fn push(&mut self, process: Process, code: u8, position: Option<Position>) {
+        self.list[self.length] = Waking { process: process.number(), code, position };
         self.length += 1;
     }
 

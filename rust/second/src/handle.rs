@@ -48,11 +48,13 @@ impl Host {
         self.sets[slot].admit(process, &array)?;
         let (outcome, touched) = self.sets[slot].perform(process, &array);
         match outcome {
-            Outcome::Refused(errno) => Err(errno),
-            Outcome::Sleep(_) => {
+            Outcome::Refused(errno, position) => {
+                Ok(Report::decided_at(position, errno.number().into()))
+            }
+            Outcome::Sleep(position) => {
                 let names = array.names();
                 self.queue.push(process, Sleeper { slot, array, names });
-                Ok(Report::with_code(ASLEEP))
+                Ok(Report::decided_at(position, ASLEEP))
             }
             Outcome::Done => Ok(self.treated(slot, touched)),
         }
@@ -80,7 +82,7 @@ impl Host {
         self.sets[slot] = Set { generation, ..Set::FREE };
         let mut report = Report::default();
         while let Some(process) = self.queue.take_oldest_of_set(slot) {
-            report.wakings.push(process, Errno::Eidrm.number());
+            report.wakings.push(process, Errno::Eidrm.number(), None);
         }
         Ok(report)
     }
@@ -89,7 +91,7 @@ impl Host {
         let process = Process::new(process)?;
         let mut report = Report::default();
         if self.queue.take_out(process) {
-            report.wakings.push(process, Errno::Eintr.number());
+            report.wakings.push(process, Errno::Eintr.number(), None);
         }
         Ok(report)
     }
@@ -120,7 +122,7 @@ impl Host {
         // Only who names the semaphore can stop there.
         for (process, sleeper) in self.queue.naming(slot, 1 << index) {
             if let Outcome::Sleep(stop) = set.outcome(process, &sleeper.array) {
-                let operation = sleeper.array.operations()[stop];
+                let operation = sleeper.array.at(stop);
                 let bit = if operation.number == number { process.bit() } else { 0 };
                 if operation.amount < 0 {
                     state.for_increase |= bit;
@@ -144,7 +146,7 @@ impl Host {
         for (process, sleeper) in self.queue.of_set(slot) {
             judged += 1;
             if let Outcome::Sleep(stop) = set.outcome(process, &sleeper.array) {
-                let stopped = sleeper.array.operations()[stop];
+                let stopped = sleeper.array.at(stop);
                 let state = &mut states[usize::from(stopped.number)];
                 let waiters =
                     if stopped.amount < 0 { &mut state.for_increase } else { &mut state.for_zero };

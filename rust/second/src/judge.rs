@@ -2,6 +2,7 @@
 
 use crate::errno::Errno;
 use crate::event::OPERATION;
+use crate::position::Position;
 
 /// Semaphores in a set, at most.
 pub const SEMAPHORES: usize = 8;
@@ -29,13 +30,14 @@ pub struct Array {
     length: usize,
 }
 
-/// How the judging of an array ends.
+/// How the judging of an array ends; where it is not done, with the position of the operation that
+/// decided.
 #[derive(Clone, Copy, Debug, PartialEq, Eq)]
 pub enum Outcome {
     Done,
-    /// The array stops at the operation with this index, and may wait there.
-    Sleep(usize),
-    Refused(Errno),
+    /// The array stops, and may wait there.
+    Sleep(Position),
+    Refused(Errno, Position),
 }
 
 /// The copy on which an array is judged: the set's values and the caller's adjustments.
@@ -76,6 +78,11 @@ impl Array {
         &self.operations[..self.length]
     }
 
+    /// The operation at a position that judging gave.
+    pub fn at(&self, position: Position) -> Operation {
+        self.operations()[position.index()]
+    }
+
     /// The semaphores that the array names, as a mask. Their numbers are known to be below 8.
     pub fn names(&self) -> u8 {
         self.operations().iter().fold(0, |mask, operation| mask | 1 << operation.number)
@@ -86,25 +93,26 @@ impl Trial {
     /// Judges the operations in order, each on what those before it left.
     pub fn judge(&mut self, operations: &[Operation]) -> Outcome {
         for (index, operation) in operations.iter().enumerate() {
+            let position = Position::new(index);
             let number = usize::from(operation.number);
             let amount = i32::from(operation.amount);
             let value = self.values[number];
             if value + amount > VALUE_MAX {
-                return Outcome::Refused(Errno::Erange);
+                return Outcome::Refused(Errno::Erange, position);
             }
             // The magnitude is taken in the wider type, where that of -32,768 is 32,768.
             let stops = if amount == 0 { value != 0 } else { value < -amount };
             if stops && operation.flags & IPC_NOWAIT != 0 {
-                return Outcome::Refused(Errno::Eagain);
+                return Outcome::Refused(Errno::Eagain, position);
             }
             if stops {
-                return Outcome::Sleep(index);
+                return Outcome::Sleep(position);
             }
             self.values[number] += amount;
             if operation.flags & SEM_UNDO != 0 {
                 self.adjustments[number] -= amount;
                 if self.adjustments[number].abs() > ADJUSTMENT_MAX {
-                    return Outcome::Refused(Errno::Erange);
+                    return Outcome::Refused(Errno::Erange, position);
                 }
             }
         }

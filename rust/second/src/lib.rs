@@ -13,6 +13,7 @@ mod handle;
 mod host;
 mod judge;
 mod line;
+mod position;
 mod process;
 mod queue;
 mod runfile;
@@ -25,6 +26,7 @@ pub use errno::Errno;
 pub use event::Event;
 pub use host::{Host, Rule};
 pub use judge::{IPC_NOWAIT as NOWAIT, SEM_UNDO as UNDO};
+pub use position::Position;
 pub use runfile::{run_file, RunFile, ENTRY, FILE_MAX, HEAD};
 pub use set::Set;
 

@@ -2,6 +2,7 @@
 
 use crate::answer::Answer;
 use crate::bad::Bad;
+use crate::position::Position;
 
 /// The only line for a refused file.
 pub fn push_bad(text: &mut Vec<u8>, bad: Bad) {
@@ -20,18 +21,21 @@ pub fn push_events(text: &mut Vec<u8>, events: usize) {
 /// The line of one event.
 pub fn push_answer(text: &mut Vec<u8>, position: usize, answer: &Answer) {
     push_number(text, position as i32);
-    push_field(text, answer.code());
     match answer {
         Answer::Event(report) => {
+            push_field(text, report.code);
+            push_position(text, report.position);
             push_field(text, report.value);
             push_field(text, report.looks as i32);
             for waking in report.wakings.as_slice() {
                 push_field(text, waking.process.into());
                 text.push(b'=');
                 push_number(text, waking.code.into());
+                push_position(text, waking.position);
             }
         }
         Answer::Query(state) => {
+            push_field(text, state.code);
             push_field(text, state.value);
             push_field(text, state.last.into());
             push_field(text, state.for_increase.count_ones() as i32);
@@ -44,6 +48,14 @@ pub fn push_answer(text: &mut Vec<u8>, position: usize, answer: &Answer) {
 fn push_field(text: &mut Vec<u8>, number: i32) {
     text.push(b' ');
     push_number(text, number);
+}
+
+/// Behind a code: the position of the operation that decided, where one did.
+fn push_position(text: &mut Vec<u8>, position: Option<Position>) {
+    if let Some(position) = position {
+        text.push(b'@');
+        push_number(text, position.index() as i32);
+    }
 }
 
 /// Writes the number in decimal; most are a single digit.

@@ -57,13 +57,13 @@ impl Host {
         report.looks += 1;
         let sleeper = self.queue.call(process);
         let (outcome, changed) = self.sets[sleeper.slot].perform(process, &sleeper.array);
-        let code = match outcome {
+        let (code, position) = match outcome {
             Outcome::Sleep(_) => return None,
-            Outcome::Done => 0,
-            Outcome::Refused(errno) => errno.number(),
+            Outcome::Done => (0, None),
+            Outcome::Refused(errno, position) => (errno.number(), Some(position)),
         };
         self.queue.take_out(process);
-        report.wakings.push(process, code);
+        report.wakings.push(process, code, position);
         Some(changed)
     }
 }

@@ -7,7 +7,7 @@ use std::io::{self, Read, Write};
 
 use second::{Event, RunFile, FILE_MAX};
 use through::Told;
-use vairolent::Host;
+use vairolent::{Host, Waking};
 
 fn main() -> io::Result<()> {
     let mut file = Vec::new();
@@ -33,18 +33,26 @@ fn line(host: &mut Host, event: &Event) -> String {
         Told::Refused(error) if matches!(event, Event::Query { .. }) => {
             format!("{} 0 0 0 0", error.code())
         }
-        Told::Refused(error) => format!("{} 0 0", error.code()),
-        Told::Asleep => "-1 0 0".to_string(),
+        Told::Refused(error) => format!("{} 0 0", code(error.code(), error.position())),
+        Told::Asleep(position) => format!("{} 0 0", code(-1, Some(position))),
         Told::Made(identifier) => format!("0 {identifier} 0"),
         Told::Done(wakings) => {
             let mut line = format!("0 0 {}", wakings.looks());
-            for waking in wakings {
-                line += &format!(" {}={}", waking.process, waking.ending.code());
+            for Waking { process, ending } in wakings {
+                line += &format!(" {process}={}", code(ending.code(), ending.position()));
             }
             line
         }
         Told::Seen(seen) => {
             format!("0 {} {} {} {}", seen.value, seen.last, seen.increase, seen.zero)
         }
+    }
+}
+
+/// A code, with the position of the operation that decided, if one did.
+fn code(code: i32, position: Option<usize>) -> String {
+    match position {
+        Some(position) => format!("{code}@{position}"),
+        None => code.to_string(),
     }
 }

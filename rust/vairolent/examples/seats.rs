@@ -1,20 +1,27 @@
-//! A ground station's spin table has two seats, and planners share them by a semaphore.
+//! A ground station's spin table has three seats and two screens, and planners share them by two
+//! semaphores.
 
 use vairolent::{Answer, Error, Host, Operation, ALL};
 
-/// Takes a seat. With undo, a planner whose program ends gives its seat back.
-const TAKE: Operation = Operation::new(0, -1).undo();
+/// Takes a seat and a screen, or neither. With undo, a planner whose program ends gives both back.
+const TAKE: [Operation; 2] = [Operation::new(0, -1).undo(), Operation::new(1, -1).undo()];
+
+/// What each operation takes.
+const TAKEN: [&str; 2] = ["seat", "screen"];
 
 fn main() -> Result<(), Error> {
     let mut host = Host::new();
-    // A set of one semaphore, for all to read and alter. Its value is how many seats are free.
-    let table = host.create(1, ALL, ALL)?;
-    let _ = host.set_value(table, 0, 2)?; // nobody sleeps yet
+    // A set of two semaphores, for all to read and alter. Their values are how many are free.
+    let table = host.create(2, ALL, ALL)?;
+    let _ = host.set_value(table, 0, 3)?; // nobody sleeps yet
+    let _ = host.set_value(table, 1, 2)?;
 
     for planner in 1..=3 {
-        match host.operate(planner, table, &[TAKE])? {
-            Answer::Done(_) => println!("planner {planner} has a seat"),
-            Answer::Asleep => println!("planner {planner} sleeps until a seat is free"),
+        match host.operate(planner, table, &TAKE)? {
+            Answer::Done(_) => println!("planner {planner} has a seat and a screen"),
+            Answer::Asleep { position } => {
+                println!("planner {planner} sleeps until a {} is free", TAKEN[position]);
+            }
         }
     }
 
@@ -22,12 +29,12 @@ fn main() -> Result<(), Error> {
     for waking in host.exit(1)? {
         println!("  {waking}");
     }
-    println!("the seats: {}", host.query(table, 0)?);
+    println!("the screens: {}", host.query(table, 1)?);
 
-    // Planner 4 would rather do without a seat than sleep.
-    match host.operate(4, table, &[TAKE.nowait()]) {
+    // Planner 4 would rather do without than sleep.
+    match host.operate(4, table, &TAKE.map(Operation::nowait)) {
         Ok(answer) => println!("planner 4: {answer}"),
-        Err(error) => println!("planner 4 has no seat: {error}"),
+        Err(error) => println!("planner 4 does without: {error}"),
     }
     Ok(())
 }

@@ -63,7 +63,7 @@ fn best(events: &[Handed], rounds: u32) -> Option<[Duration; 2]> {
 fn by_library(host: &mut Host, handed: &Handed) -> i64 {
     match through::run(host, &handed.event, &handed.operations) {
         Told::Refused(error) => error.code().into(),
-        Told::Asleep => -1,
+        Told::Asleep(_) => -1,
         Told::Made(identifier) => identifier.into(),
         Told::Done(wakings) => (wakings.looks() + wakings.len()) as i64,
         Told::Seen(seen) => seen.value.into(),

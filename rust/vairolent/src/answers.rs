@@ -13,7 +13,7 @@ use crate::wakings::Wakings;
 /// let mut host = Host::new();
 /// let set = host.create(1, ALL, ALL)?;
 /// let asleep = host.operate(1, set, &[Operation::new(0, -1)])?;
-/// assert_eq!(asleep.to_string(), "asleep (-1)");
+/// assert_eq!(asleep.to_string(), "asleep (-1) at operation 0");
 /// let done = host.operate(2, set, &[Operation::new(0, 1)])?;
 /// assert_eq!(done.to_string(), "done (0), 1 look; process 1: done (0)");
 /// # Ok::<(), vairolent::Error>(())
@@ -24,15 +24,21 @@ pub enum Answer {
     /// All its operations are done, and these sleepers were ended.
     Done(Wakings),
     /// Nothing is done. The process sleeps until the wakings of an event list it, or it exits.
-    Asleep,
+    Asleep {
+        /// Which operation stopped, from 0.
+        position: usize,
+    },
 }
 
-/// As in `done (0), 1 look; process 3: done (0)`, or `asleep (-1)`.
+/// As in `done (0), 1 look; process 3: done (0)`, or `asleep (-1) at operation 0`.
 impl fmt::Display for Answer {
     fn fmt(&self, f: &mut fmt::Formatter) -> fmt::Result {
         match self {
-            Answer::Done(wakings) => write!(f, "{}, {wakings}", codes::DONE),
-            Answer::Asleep => codes::ASLEEP.fmt(f),
+            Answer::Done(wakings) => {
+                codes::DONE.write(None, f)?;
+                write!(f, ", {wakings}")
+            }
+            Answer::Asleep { position } => codes::ASLEEP.write(Some(*position), f),
         }
     }
 }
@@ -47,7 +53,7 @@ impl fmt::Display for Answer {
 ///
 /// let mut host = Host::new();
 /// let set = host.create(1, ALL, ALL)?;
-/// assert_eq!(host.operate(3, set, &[Operation::new(0, -2)])?, Answer::Asleep);
+/// assert_eq!(host.operate(3, set, &[Operation::new(0, -2)])?, Answer::Asleep { position: 0 });
 /// let _ = host.operate(4, set, &[Operation::new(0, 1)])?;
 /// let seen = host.query(set, 0)?;
 /// assert_eq!(seen.to_string(), "value 1, last process 4, waiting 1 for increase, 0 for zero");

@@ -14,8 +14,32 @@ pub type Row = [u8; 533];
 /// The undo adjustments, of each process for each semaphore.
 pub type Adjustments = [i16; PROCESSES * SETS * SEMAPHORES];
 
-/// The wakings of an event, each a process and its code, with zeros behind them.
-pub type List = [[u8; 2]; PROCESSES];
+/// The operation of an array that decided, by its position from 0; or that none did.
+#[repr(C)]
+#[derive(Clone, Copy, Default)]
+pub struct Position {
+    /// A bool of C, taken as the byte that it is.
+    there: u8,
+    at: u8,
+}
+
+impl Position {
+    pub fn get(self) -> Option<usize> {
+        (self.there != 0).then(|| usize::from(self.at))
+    }
+}
+
+/// A sleeper that an event ended.
+#[repr(C)]
+#[derive(Clone, Copy, Default)]
+pub struct Woken {
+    pub process: u8,
+    pub code: u8,
+    pub position: Position,
+}
+
+/// The wakings of an event, with zeros behind them.
+pub type List = [Woken; PROCESSES];
 
 /// A fresh host.
 #[repr(C)]
@@ -32,7 +56,11 @@ pub struct Told {
     pub value: u32,
     pub looks: usize,
     pub woken: usize,
+    pub position: Position,
 }
+
+// As they are in C, where the archive writes them.
+const _: () = assert!(size_of::<List>() == 32 && size_of::<Told>() == 32);
 
 /// What a query answers. Its looks are 0.
 #[repr(C)]
@@ -163,6 +191,14 @@ mod tests {
     fn the_limits_and_sizes_are_those_of_the_archive() {
         // SAFETY: it takes nothing, and has no premise.
         assert_eq!(unsafe { vairolent_limits() }, LIMITS);
+    }
+
+    #[test]
+    fn a_position_is_there_or_not() {
+        assert_eq!(Position::default().get(), None);
+        assert_eq!(Position { there: 0, at: 7 }.get(), None);
+        assert_eq!(Position { there: 1, at: 0 }.get(), Some(0));
+        assert_eq!(Position { there: 1, at: 7 }.get(), Some(7));
     }
 
     #[test]

@@ -25,12 +25,20 @@ pub const EBUSY: Code = code(16, "EBUSY", "the process is asleep");
 pub const EINVAL: Code = code(22, "EINVAL", "no such set, or a bad argument");
 pub const EFBIG: Code = code(27, "EFBIG", "a semaphore number is at or above the set's count");
 pub const ENOSPC: Code = code(28, "ENOSPC", "no slot is free");
+/// Of an operation.
 pub const ERANGE: Code = code(34, "ERANGE", "a value or an adjustment would leave its range");
+/// Of a value to set.
+pub const ERANGE_TO_SET: Code = code(34, "ERANGE", "the value is not 0 to 32,767");
 pub const EIDRM: Code = code(43, "EIDRM", "its set was removed");
 
-impl fmt::Display for Code {
-    fn fmt(&self, f: &mut fmt::Formatter) -> fmt::Result {
+impl Code {
+    /// As in `ENOSPC (28): no slot is free`; with the position of the operation that decided, as in
+    /// `asleep (-1) at operation 0`.
+    pub fn write(&self, position: Option<usize>, f: &mut fmt::Formatter) -> fmt::Result {
         write!(f, "{} ({})", self.name, self.number)?;
+        if let Some(position) = position {
+            write!(f, " at operation {position}")?;
+        }
         if self.words.is_empty() {
             return Ok(());
         }
@@ -38,25 +46,31 @@ impl fmt::Display for Code {
     }
 }
 
-/// An enum in which each variant stands for a code.
+/// An enum in which each variant stands for a code, with a position where an operation decided. A
+/// code may stand once with a position and once without.
 macro_rules! coded {
     (
         $(#[$about:meta])*
         pub enum $name:ident {
-            $($(#[$says:meta])* $variant:ident = $code:ident,)*
+            $($(#[$says:meta])* $variant:ident $({ $position:ident })? = $code:ident,)*
         }
     ) => {
         $(#[$about])*
         #[derive(Clone, Copy, Debug, PartialEq, Eq, Hash)]
-        #[repr(i32)]
         pub enum $name {
-            $($(#[$says])* $variant = $crate::codes::$code.number,)*
+            $(
+                $(#[$says])*
+                $variant $({
+                    /// Which operation decided, from 0.
+                    $position: usize,
+                })?,
+            )*
         }
 
         impl $name {
             /// Its number.
             pub fn code(self) -> i32 {
-                self as i32
+                self.row().number
             }
 
             /// Its name.
@@ -64,27 +78,48 @@ macro_rules! coded {
                 self.row().name
             }
 
-            fn row(self) -> $crate::codes::Code {
+            /// Which operation decided, by its position from 0; nothing where none did.
+            pub fn position(self) -> Option<usize> {
                 match self {
-                    $($name::$variant => $crate::codes::$code,)*
+                    $($name::$variant $({ $position })? => $crate::codes::place!($($position)?),)*
                 }
             }
 
-            /// The one with this code.
-            pub(crate) fn with_code(code: i32) -> $name {
-                let mut all = [$($name::$variant),*].into_iter();
-                all.find(|each| each.code() == code).unwrap_or_else(|| {
-                    unreachable!("it is proved that the service gives no other code: {}", code)
-                })
+            fn row(self) -> $crate::codes::Code {
+                match self {
+                    $($name::$variant { .. } => $crate::codes::$code,)*
+                }
+            }
+
+            /// The one with this code, and with this position or none.
+            pub(crate) fn with_code(code: i32, position: Option<usize>) -> $name {
+                match (code, position) {
+                    $((number, $crate::codes::place!($($position)?))
+                        if number == $crate::codes::$code.number =>
+                    {
+                        $name::$variant $({ $position })?
+                    })*
+                    other => unreachable!("the service is proved to give no other: {:?}", other),
+                }
             }
         }
 
         impl std::fmt::Display for $name {
             fn fmt(&self, f: &mut std::fmt::Formatter) -> std::fmt::Result {
-                self.row().fmt(f)
+                self.row().write(self.position(), f)
             }
         }
     };
 }
 
-pub(crate) use coded;
+/// The position that a variant has, or none: as a value, and as a pattern.
+macro_rules! place {
+    () => {
+        None
+    };
+    ($position:ident) => {
+        Some($position)
+    };
+}
+
+pub(crate) use {coded, place};

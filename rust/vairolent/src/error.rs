@@ -14,6 +14,26 @@ coded! {
     /// assert_eq!(Error::NoSlot.name(), "ENOSPC");
     /// assert_eq!(Error::NoSlot.to_string(), "ENOSPC (28): no slot is free");
     /// ```
+    ///
+    /// An operate that is judged, and not let through, has the [position](Error::position) of the
+    /// operation that decided. What is refused before judging has none, nor has any other event.
+    ///
+    /// ```
+    /// use vairolent::{Error, Host, Operation, ALL};
+    ///
+    /// let mut host = Host::new();
+    /// let set = host.create(2, ALL, ALL)?;
+    /// let operations = [Operation::new(0, 1), Operation::new(1, -1).nowait()];
+    /// let error = host.operate(1, set, &operations).unwrap_err();
+    /// assert_eq!(error, Error::WouldSleep { position: 1 });
+    /// assert_eq!(
+    ///     error.to_string(),
+    ///     "EAGAIN (11) at operation 1: an operation with IPC_NOWAIT would sleep"
+    /// );
+    /// let error = host.operate(9, set, &operations).unwrap_err();
+    /// assert_eq!((error, error.position()), (Error::NoProcess, None));
+    /// # Ok::<(), vairolent::Error>(())
+    /// ```
     pub enum Error {
         /// ESRCH: the process is not 1 to 8.
         NoProcess = ESRCH,
@@ -31,22 +51,54 @@ coded! {
         NotPermitted = EACCES,
         /// ENOSPC: no slot is free.
         NoSlot = ENOSPC,
+        /// ERANGE: the value of a set value is not 0 to 32,767.
+        BadValue = ERANGE_TO_SET,
         /// EAGAIN: an operation with IPC_NOWAIT would sleep.
-        WouldSleep = EAGAIN,
-        /// ERANGE: a value would leave 0 to 32,767, or an adjustment -32,767 to 32,767.
-        OutOfRange = ERANGE,
+        WouldSleep { position } = EAGAIN,
+        /// ERANGE: by an operation a value would leave 0 to 32,767, or an adjustment -32,767 to
+        /// 32,767.
+        OutOfRange { position } = ERANGE,
     }
 }
 
 impl Error {
-    /// Does the code refuse? Those of a call that is done and of one that sleeps do not.
-    pub(crate) fn check(code: i32) -> Result<(), Error> {
-        if [codes::DONE.number, codes::ASLEEP.number].contains(&code) {
-            Ok(())
-        } else {
-            Err(Error::with_code(code))
+    /// Does the code refuse? Those of what is done and of a call that sleeps do not.
+    pub(crate) fn check(code: i32, position: Option<usize>) -> Result<(), Error> {
+        match position {
+            None if code == codes::DONE.number => Ok(()),
+            Some(_) if code == codes::ASLEEP.number => Ok(()),
+            _ => Err(Error::with_code(code, position)),
         }
     }
 }
 
 impl std::error::Error for Error {}
+
+#[cfg(test)]
+mod tests {
+    use super::*;
+
+    #[test]
+    fn what_is_done_or_asleep_is_not_refused() {
+        assert_eq!(Error::check(0, None), Ok(()));
+        assert_eq!(Error::check(-1, Some(7)), Ok(()));
+    }
+
+    #[test]
+    fn one_code_with_a_position_and_without() {
+        assert_eq!(Error::check(34, None), Err(Error::BadValue));
+        assert_eq!(Error::check(34, Some(2)), Err(Error::OutOfRange { position: 2 }));
+    }
+
+    #[test]
+    #[should_panic(expected = "no other: (-1, None)")]
+    fn asleep_is_always_with_a_position() {
+        let _ = Error::check(-1, None);
+    }
+
+    #[test]
+    #[should_panic(expected = "no other: (22, Some(0))")]
+    fn a_check_is_always_without() {
+        let _ = Error::check(22, Some(0));
+    }
+}

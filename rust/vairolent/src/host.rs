@@ -5,9 +5,7 @@ use std::mem::size_of_val;
 
 use crate::answers::{Answer, Semaphore};
 use crate::archive::{self, Adjustments, List, Row, Told};
-use crate::codes;
 use crate::error::Error;
-use crate::limits::PROCESSES;
 use crate::operation::Operation;
 use crate::set::Set;
 use crate::wakings::Wakings;
@@ -23,9 +21,10 @@ use crate::wakings::Wakings;
 /// After an operate that is done, a set value or an exit, those sleepers of the set are judged again
 /// whose operations name a semaphore whose value changed or was set, oldest first. One that no longer
 /// sleeps is woken: with its operations applied, and then it is the last process of all that they
-/// name, or with an error of its own. Then those who name a semaphore whose value it changed are to be
-/// judged too, and it begins again with the oldest, until nobody is left to be judged. Each such
-/// judging is a look. So nobody sleeps on who could finish.
+/// name, or with an error of its own and the position of the operation that now decided. Then those
+/// who name a semaphore whose value it changed are to be judged too, and it begins again with the
+/// oldest, until nobody is left to be judged. Each such judging is a look. So nobody sleeps on who
+/// could finish.
 ///
 /// # Equality
 ///
@@ -55,10 +54,11 @@ pub struct Host {
 macro_rules! lend {
     ($host:ident to $event:ident($($argument:ident),*)) => {{
         let Host { row, adjustments } = $host;
-        let mut list = [[0; 2]; PROCESSES];
+        let mut list = List::default();
         // SAFETY: The host is fresh or as the last event left it, since its parts are private and
         // written here alone. They and the list lie apart, as each is borrowed by itself. An
-        // operate's pointer and bytes are those of a slice that its caller lends.
+        // operate's pointer and bytes are those of a slice that its caller lends. The archive
+        // writes numbers, for which any bytes will do.
         let told = unsafe { archive::$event(row, adjustments, &mut list, $($argument),*) };
         settled(told, list)
     }};
@@ -66,7 +66,7 @@ macro_rules! lend {
 
 /// What an event told, and its wakings; or why it is refused.
 fn settled(told: Told, list: List) -> Result<(Told, Wakings), Error> {
-    Error::check(told.code)?;
+    Error::check(told.code, told.position.get())?;
     let wakings = Wakings::new(list, told.woken, told.looks);
     Ok((told, wakings))
 }
@@ -123,9 +123,10 @@ impl Host {
     /// Does operations on a set for a process, all at once or not at all.
     ///
     /// They are judged in order, on a copy of the set's values and of the process's adjustments;
-    /// the first that stops, or would leave a range, decides. If it stops, the process sleeps, and
-    /// nothing else changes. If none does, the copy becomes the state, the process the last of every
-    /// semaphore that they name, amounts of 0 included, and [sleepers are woken](Host).
+    /// the first that stops, or would leave a range, decides, and its position in `operations` is
+    /// told. If it stops, the process sleeps, and nothing else changes. If none does, the copy becomes
+    /// the state, the process the last of every semaphore that they name, amounts of 0 included, and
+    /// [sleepers are woken](Host).
     ///
     /// # Errors
     ///
@@ -140,7 +141,7 @@ impl Host {
     /// - [`Error::NotPermitted`]: the process has no alter bit and an amount is not zero, or it has
     ///   no read bit and an amount is zero.
     ///
-    /// Then by the judging, from the operation that decides:
+    /// Then by the judging, from the operation that decides, and with its position:
     ///
     /// - [`Error::WouldSleep`]: it stops, and has [`Operation::NOWAIT`].
     /// - [`Error::OutOfRange`]: the value would be over 32,767, or it has [`Operation::UNDO`] and
@@ -150,14 +151,16 @@ impl Host {
     /// use vairolent::{Answer, Ending, Host, Operation, Waking, ALL};
     ///
     /// let mut host = Host::new();
-    /// let set = host.create(1, ALL, ALL)?;
-    /// let take = [Operation::new(0, -1)];
-    /// assert_eq!(host.operate(1, set, &take)?, Answer::Asleep);
-    /// match host.operate(2, set, &[Operation::new(0, 1)])? {
+    /// let set = host.create(2, ALL, ALL)?;
+    /// let _ = host.set_value(set, 0, 1)?;
+    /// // Semaphore 0 has the 1 that is taken, but semaphore 1 has not.
+    /// let take = [Operation::new(0, -1), Operation::new(1, -1)];
+    /// assert_eq!(host.operate(1, set, &take)?, Answer::Asleep { position: 1 });
+    /// match host.operate(2, set, &[Operation::new(1, 1)])? {
     ///     Answer::Done(mut wakings) => {
     ///         assert_eq!(wakings.next(), Some(Waking { process: 1, ending: Ending::Done }));
     ///     }
-    ///     Answer::Asleep => unreachable!("adding never sleeps"),
+    ///     Answer::Asleep { .. } => unreachable!("adding never sleeps"),
     /// }
     /// # Ok::<(), vairolent::Error>(())
     /// ```
@@ -171,7 +174,10 @@ impl Host {
         let operations = operations.as_ptr().cast();
         let (told, wakings) =
             lend!(self to vairolent_operate_in(process, identifier, operations, bytes))?;
-        Ok(if told.code == codes::ASLEEP.number { Answer::Asleep } else { Answer::Done(wakings) })
+        Ok(match told.position.get() {
+            Some(position) => Answer::Asleep { position },
+            None => Answer::Done(wakings),
+        })
     }
 
     /// Sets a semaphore to a value, and clears its adjustments for all processes.
@@ -185,14 +191,14 @@ impl Host {
     ///
     /// - [`Error::Invalid`]: the identifier names no live set.
     /// - [`Error::Invalid`]: the number is at or above the set's count.
-    /// - [`Error::OutOfRange`]: the value is not 0 to 32,767.
+    /// - [`Error::BadValue`]: the value is not 0 to 32,767.
     ///
     /// ```
     /// use vairolent::{Answer, Host, Operation, ALL};
     ///
     /// let mut host = Host::new();
     /// let set = host.create(1, ALL, ALL)?;
-    /// assert_eq!(host.operate(1, set, &[Operation::new(0, -3)])?, Answer::Asleep);
+    /// assert_eq!(host.operate(1, set, &[Operation::new(0, -3)])?, Answer::Asleep { position: 0 });
     /// assert_eq!(host.set_value(set, 0, 2)?.len(), 0);
     /// assert_eq!(host.set_value(set, 0, 4)?.len(), 1);
     /// assert_eq!(host.query(set, 0)?.value, 1);
@@ -220,7 +226,7 @@ impl Host {
     ///
     /// let mut host = Host::new();
     /// let set = host.create(1, ALL, ALL)?;
-    /// assert_eq!(host.operate(5, set, &[Operation::new(0, -1)])?, Answer::Asleep);
+    /// assert_eq!(host.operate(5, set, &[Operation::new(0, -1)])?, Answer::Asleep { position: 0 });
     /// let mut wakings = host.remove(set)?;
     /// assert_eq!(wakings.next(), Some(Waking { process: 5, ending: Ending::Removed }));
     /// assert_eq!(host.remove(set), Err(Error::Invalid));
@@ -244,7 +250,7 @@ impl Host {
     ///
     /// let mut host = Host::new();
     /// let set = host.create(1, ALL, ALL)?;
-    /// assert_eq!(host.operate(5, set, &[Operation::new(0, -1)])?, Answer::Asleep);
+    /// assert_eq!(host.operate(5, set, &[Operation::new(0, -1)])?, Answer::Asleep { position: 0 });
     /// let mut wakings = host.signal(5)?;
     /// assert_eq!(wakings.next(), Some(Waking { process: 5, ending: Ending::Interrupted }));
     /// assert_eq!(host.signal(5)?.len(), 0);
@@ -294,7 +300,7 @@ impl Host {
     ///
     /// let mut host = Host::new();
     /// let set = host.create(1, ALL, ALL)?;
-    /// assert_eq!(host.operate(3, set, &[Operation::new(0, -1)])?, Answer::Asleep);
+    /// assert_eq!(host.operate(3, set, &[Operation::new(0, -1)])?, Answer::Asleep { position: 0 });
     /// let semaphore = host.query(set, 0)?;
     /// assert_eq!((semaphore.increase, semaphore.increase_mask), (1, 0b0000_0100));
     /// # Ok::<(), vairolent::Error>(())
@@ -303,7 +309,7 @@ impl Host {
         let Host { row, adjustments } = self;
         // SAFETY: The host is fresh or as the last event left it, since its parts are private.
         let seen = unsafe { archive::vairolent_query_in(row, adjustments, identifier, number) };
-        Error::check(seen.code)?;
+        Error::check(seen.code, None)?;
         Ok(Semaphore {
             value: seen.value,
             last: seen.last,
@@ -328,8 +334,8 @@ impl Host {
     ///
     /// let mut host = Host::new();
     /// let set = host.create(3, ALL, ALL)?;
-    /// assert_eq!(host.operate(3, set, &[Operation::new(0, -1)])?, Answer::Asleep);
-    /// assert_eq!(host.operate(5, set, &[Operation::new(2, -1)])?, Answer::Asleep);
+    /// assert_eq!(host.operate(3, set, &[Operation::new(0, -1)])?, Answer::Asleep { position: 0 });
+    /// assert_eq!(host.operate(5, set, &[Operation::new(2, -1)])?, Answer::Asleep { position: 0 });
     /// let seen = host.query_set(set)?;
     /// let waiting: Vec<u32> = seen.semaphores().iter().map(|each| each.increase).collect();
     /// assert_eq!(waiting, [1, 0, 1]);
@@ -340,7 +346,7 @@ impl Host {
         let Host { row, adjustments } = self;
         // SAFETY: The host is fresh or as the last event left it, since its parts are private.
         let seen = unsafe { archive::vairolent_query_set_in(row, adjustments, identifier) };
-        Error::check(seen.code)?;
+        Error::check(seen.code, None)?;
         Ok(Set::new(&seen))
     }
 }

@@ -17,10 +17,32 @@
 //! let _ = host.set_value(table, 0, 1)?;
 //! // Predictor 1 takes the table; predictor 2 has to sleep until it is free.
 //! assert!(matches!(host.operate(1, table, &take)?, Answer::Done(_)));
-//! assert_eq!(host.operate(2, table, &take)?, Answer::Asleep);
+//! assert_eq!(host.operate(2, table, &take)?, Answer::Asleep { position: 0 });
 //! // Predictor 1 fails, and its undo gives the table to predictor 2.
 //! let woken: Vec<String> = host.exit(1)?.map(|waking| waking.to_string()).collect();
 //! assert_eq!(woken, ["process 2: done (0)"]);
+//! # Ok::<(), vairolent::Error>(())
+//! ```
+//!
+//! # Which operation decided
+//!
+//! Operations are judged in order, and the first that cannot go on decides. Then the answer names it
+//! by its position, from 0: in [`Answer::Asleep`], in [`Error::WouldSleep`] and
+//! [`Error::OutOfRange`], and where a sleeper is judged again in [`Ending::WouldSleep`] and
+//! [`Ending::OutOfRange`]. Nothing else has a position: operations that are done, calls that a check
+//! refuses before they are judged, sleepers that a signal or a removal ends, and the other events.
+//!
+//! ```
+//! use vairolent::{Error, Host, Operation, ALL};
+//!
+//! let mut host = Host::new();
+//! let set = host.create(3, ALL, ALL)?;
+//! let operations = [2, 0, 1].map(|number| Operation::new(number, -1).nowait());
+//! let _ = host.set_value(set, 2, 1)?;
+//! match host.operate(1, set, &operations) {
+//!     Err(Error::WouldSleep { position }) => assert_eq!(operations[position].number, 0),
+//!     other => panic!("semaphore 0 is at 0: {other:?}"),
+//! }
 //! # Ok::<(), vairolent::Error>(())
 //! ```
 //!
@@ -28,9 +50,9 @@
 //!
 //! The events are functions of libvairolent.a, which tools/build-library makes from
 //! `crates/vairolent`. Each is proved to do what the rules say, for every host that is fresh or as
-//! the last event left it, and for all arguments: what it answers, whom it wakes, and every byte of
-//! the host after it. A refused event changes nothing. A whole set is shown as its queries would show
-//! it. `docs/RULES.md` leads from each rule to its definition.
+//! the last event left it, and for all arguments: what it answers, which operation decided, whom it
+//! wakes, and every byte of the host after it. A refused event changes nothing. A whole set is shown
+//! as its queries would show it. `docs/RULES.md` leads from each rule to its definition.
 //!
 //! This package is ordinary Rust, and not proved. It keeps a host's bytes private, so that they are
 //! always as the last event left them, lends them to the archive by the C convention, and turns

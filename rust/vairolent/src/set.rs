@@ -15,7 +15,7 @@ use crate::limits::SEMAPHORES;
 /// let mut host = Host::new();
 /// let set = host.create(2, ALL, ALL)?;
 /// let _ = host.operate(4, set, &[Operation::new(0, 1)])?;
-/// assert_eq!(host.operate(3, set, &[Operation::new(1, -1)])?, Answer::Asleep);
+/// assert_eq!(host.operate(3, set, &[Operation::new(1, -1)])?, Answer::Asleep { position: 0 });
 /// assert_eq!(
 ///     host.query_set(set)?.to_string(),
 ///     "0: value 1, last process 4, waiting 0 for increase, 0 for zero\n\

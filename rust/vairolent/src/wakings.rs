@@ -4,7 +4,7 @@ use std::array::IntoIter;
 use std::fmt;
 use std::iter::{FusedIterator, Take};
 
-use crate::archive::List;
+use crate::archive::{List, Woken};
 use crate::codes::coded;
 use crate::limits::PROCESSES;
 
@@ -20,13 +20,30 @@ coded! {
     /// assert_eq!(Ending::Removed.to_string(), "EIDRM (43): its set was removed");
     /// assert_eq!(Ending::Done.to_string(), "done (0)");
     /// ```
+    ///
+    /// Where the sleeper was judged again, and not let through, it has the
+    /// [position](Ending::position) of the operation that decided then, which need not be the one at
+    /// which the call went to sleep.
+    ///
+    /// ```
+    /// use vairolent::{Answer, Ending, Host, Operation, ALL};
+    ///
+    /// let mut host = Host::new();
+    /// let set = host.create(2, ALL, ALL)?;
+    /// let operations = [Operation::new(0, 5), Operation::new(1, -1)];
+    /// assert_eq!(host.operate(1, set, &operations)?, Answer::Asleep { position: 1 });
+    /// // There is no room for 5 any more.
+    /// let waking = host.set_value(set, 0, 32_765)?.next().expect("process 1");
+    /// assert_eq!(waking.ending, Ending::OutOfRange { position: 0 });
+    /// # Ok::<(), vairolent::Error>(())
+    /// ```
     pub enum Ending {
         /// All its operations are done.
         Done = DONE,
         /// EAGAIN: it would sleep now at an operation with IPC_NOWAIT. Its operations are not done.
-        WouldSleep = EAGAIN,
+        WouldSleep { position } = EAGAIN,
         /// ERANGE: a value or an adjustment would leave its range. Its operations are not done.
-        OutOfRange = ERANGE,
+        OutOfRange { position } = ERANGE,
         /// EIDRM: its set was removed.
         Removed = EIDRM,
         /// EINTR: a signal interrupted it.
@@ -41,6 +58,11 @@ coded! {
 ///
 /// let waking = Waking { process: 2, ending: Ending::Interrupted };
 /// assert_eq!(waking.to_string(), "process 2: EINTR (4): a signal interrupted it");
+/// let waking = Waking { process: 3, ending: Ending::WouldSleep { position: 1 } };
+/// assert_eq!(
+///     waking.to_string(),
+///     "process 3: EAGAIN (11) at operation 1: an operation with IPC_NOWAIT would sleep"
+/// );
 /// ```
 #[derive(Clone, Copy, Debug, PartialEq, Eq, Hash)]
 pub struct Waking {
@@ -60,7 +82,8 @@ pub struct Waking {
 /// let mut host = Host::new();
 /// let set = host.create(1, ALL, ALL)?;
 /// for process in [3, 5] {
-///     assert_eq!(host.operate(process, set, &[Operation::new(0, -1)])?, Answer::Asleep);
+///     let answer = host.operate(process, set, &[Operation::new(0, -1)])?;
+///     assert_eq!(answer, Answer::Asleep { position: 0 });
 /// }
 /// let wakings = host.set_value(set, 0, 1)?;
 /// // Process 3 takes the 1 and is woken; process 5 is judged and sleeps on.
@@ -73,7 +96,7 @@ pub struct Waking {
 #[derive(Clone)]
 #[must_use = "each waking is a process that sleeps until it is told"]
 pub struct Wakings {
-    rest: Take<IntoIter<[u8; 2], PROCESSES>>,
+    rest: Take<IntoIter<Woken, PROCESSES>>,
     looks: usize,
 }
 
@@ -94,8 +117,8 @@ impl Iterator for Wakings {
     type Item = Waking;
 
     fn next(&mut self) -> Option<Waking> {
-        let [process, code] = self.rest.next()?;
-        Some(Waking { process, ending: Ending::with_code(code.into()) })
+        let Woken { process, code, position } = self.rest.next()?;
+        Some(Waking { process, ending: Ending::with_code(code.into(), position.get()) })
     }
 
     fn size_hint(&self) -> (usize, Option<usize>) {

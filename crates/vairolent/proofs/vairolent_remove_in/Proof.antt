@@ -2,15 +2,19 @@
 use mathlib.Core.Path.{sym}
 use mir.Facts.{toZ-ofZ}
 use borrow.Author.Needs.{needs}
+use Rattle.vairolent.proofs.Calls.{handed}
 use Rattle.vairolent.proofs.vairolent_remove_in.Statement.{statement}
 use Rattle.vairolent.proofs.vairolent_remove_in.Tie as tie
 
 remove-requires : tie.Need-remove-requires
 remove-requires c κs = search needs
 
+report-requires : tie.Need-report-requires
+report-requires c κs = search needs
+
 -- the signed number goes to the service through its 32 bits, and comes back as it was
 returns : tie.Need-returns
-returns c = rw (sym (toZ-ofZ (c .before .before .before .before .fits .identifier))) (c .remove .ensures)
+returns c = let s = c .before .before .before .before .before in rw (sym (toZ-ofZ (s .fits .identifier))) (handed (c .report .ensures) (c .before .remove .ensures))
 
 pub vairolent-remove-in-spec : {M : Type 1} → statement M
-vairolent-remove-in-spec = tie.close (tie.spec remove-requires returns)
+vairolent-remove-in-spec = tie.close (tie.spec remove-requires report-requires returns)

@@ -21,8 +21,8 @@ add-all c = search needs
 slice-write-all-2 : tie.Need-slice-write-all-2
 slice-write-all-2 c = simp length-set (omega arith)
 
-decided-of-requires : tie.Need-decided-of-requires
-decided-of-requires c κs = search needs
+decided-byte-requires : tie.Need-decided-byte-requires
+decided-byte-requires c κs = search needs
 
 add-all-2 : tie.Need-add-all-2
 add-all-2 c = search needs
@@ -30,8 +30,8 @@ add-all-2 c = search needs
 slice-write-all-3 : tie.Need-slice-write-all-3
 slice-write-all-3 c = simp length-set (omega arith)
 
-number-of-requires : tie.Need-number-of-requires
-number-of-requires c κs = search needs
+position-byte-requires : tie.Need-position-byte-requires
+position-byte-requires c κs = search needs
 
 add-all-3 : tie.Need-add-all-3
 add-all-3 c = search needs
@@ -42,7 +42,7 @@ slice-write-all-4 c = simp length-set (omega arith)
 returns : tie.Need-returns
 returns c =
     let a = c .before .before .before .before .args in
-    rw (c .number-of .ensures, c .before .decided-of .ensures)
+    rw (c .position-byte .ensures, c .before .decided-byte .ensures)
     (stored (a .list .now) (a .count) (a .process) (a .code) _ _ (search needs) (search needs))
 
 returns-2 : tie.Need-returns-2
@@ -58,10 +58,10 @@ note-spec =
     slice-write-all
     add-all
     slice-write-all-2
-    decided-of-requires
+    decided-byte-requires
     add-all-2
     slice-write-all-3
-    number-of-requires
+    position-byte-requires
     add-all-3
     slice-write-all-4
     returns

@@ -20,8 +20,8 @@ event 0: create a set of 1 semaphore, for all to read and alter
   values  set 0: 0
 
 event 1: process 1 on set 0: take 1 from semaphore 0
-  line    1 -1 0 0
-  answer  asleep (-1)
+  line    1 -1@0 0 0
+  answer  asleep (-1) at operation 0: semaphore 0 has value 0, the call wants 1
   values  set 0: 0
   waits   set 0, semaphore 0: 1 for increase, 0 for zero
 
@@ -48,7 +48,8 @@ fn every_event_in_words() {
         "answer  refused: EINVAL (22), the count isn't 1 to 8\n",
         "process 1 on set 0: add 2 to semaphore 0 (undo); wait for zero at semaphore 1\n",
         "  values  set 0: 2 0\n",
-        "answer  refused: EAGAIN (11), it would have to sleep, but nowait is given\n",
+        "answer  refused: EAGAIN (11) at operation 0: semaphore 0 has value 2, the call wants zero; \
+        it\n          would have to sleep, but nowait is given\n",
         "wait for zero at semaphore 0 (0x0001)\n",
         "  waits   set 0, semaphore 0: 0 for increase, 1 for zero\n",
         "  wakes   process 2: EINTR (4), by the signal\n",
@@ -75,8 +76,40 @@ fn a_missing_program_says_what_builds_it() {
     assert!(status == 1 && words.contains("`rt check`"), "{words}");
 }
 
-/// A full file takes many runs. Its lines are those of one replay, and every query of the file
-/// answers with the value that the story shows.
+/// Process 3 is looked at behind 2 and before 4, on other values than those that the event leaves.
+#[test]
+fn operations_that_decided() {
+    let text = "create 2\noperate 2 set=0 0:-1 1:+2\noperate 3 set=0 0:-1 1:+1 1:0/nowait\n\
+        operate 4 set=0 0:-2 1:-2\noperate 5 set=0 0:+3\noperate 5 set=0 0:+2 0:+32766\n\
+        operate 5 set=0 1:+32767/undo\noperate 6 set=0 1:-2\noperate 5 set=0 1:+1/undo\n";
+    let wanted = "
+event 4: process 5 on set 0: add 3 to semaphore 0
+  line    4 0 0 3 2=0 3=11@2 4=0
+  answer  done (0), 3 looks
+  wakes   process 2: done (0)
+  wakes   process 3: EAGAIN (11) at operation 2: semaphore 1 has value 3 after operation 1, the call
+          wants zero; it stops now where nowait is given
+  wakes   process 4: done (0)
+  values  set 0: 0 0
+
+event 5: process 5 on set 0: add 2 to semaphore 0; add 32766 to semaphore 0
+  line    5 34@1 0 0
+  answer  refused: ERANGE (34) at operation 1: semaphore 0 has value 2 after operation 0, plus 32766
+          is above 32767
+  values  set 0: 0 0
+";
+    let story = story(&[], text.as_bytes());
+    assert!(story.contains(wanted), "{story}");
+    let wanted = "
+  line    8 34@0 0 0
+  answer  refused: ERANGE (34) at operation 0: the process's undo adjustment of semaphore 1 would
+          leave -32767 to 32767
+";
+    assert!(story.contains(wanted), "{story}");
+}
+
+/// A full file takes many runs. Its lines are those of one replay, every query of the file answers
+/// with the value that the story shows, and each operation that decided is told with its value.
 #[test]
 fn a_full_file() {
     let file = generated(&["--kind", "mixed", "--seed", "3"]);
@@ -88,6 +121,21 @@ fn a_full_file() {
     assert!(queries.len() > 200 && queries.iter().all(|&agrees| agrees));
     let cut = story.matches("not all shown").count();
     assert!(cut <= 4, "{cut} events of a full file without all values");
+    let mut decided = 0;
+    for scene in story.split("\n\n").filter(|scene| !scene.contains("not all shown")) {
+        let (named, told) = named_and_told(scene);
+        assert_eq!(named, told, "{scene}");
+        decided += told;
+    }
+    assert!(decided > 200, "{decided} operations that decided");
+}
+
+/// How many operations the line of a scene names, and how many the story tells with a reason.
+fn named_and_told(scene: &str) -> (usize, usize) {
+    let line = scene.lines().find_map(|row| row.strip_prefix("  line ")).unwrap_or_default();
+    let words: Vec<&str> = scene.split_whitespace().collect();
+    let told = words.windows(3).filter(|three| three[..2] == ["at", "operation"]);
+    (line.matches('@').count(), told.filter(|three| three[2].ends_with(':')).count())
 }
 
 /// Of a query that is done: does the story show its value among those of its set?

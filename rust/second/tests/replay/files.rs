@@ -18,7 +18,7 @@ fn the_whole_example_of_44_bytes() {
     ];
     assert_eq!(file.len(), 44);
     for rule in [Rule::Quick, Rule::Plain] {
-        assert_eq!(text(&file, rule), "events 3\n0 0 0 0\n1 -1 0 0\n2 0 0 1 1=0\n");
+        assert_eq!(text(&file, rule), "events 3\n0 0 0 0\n1 -1@0 0 0\n2 0 0 1 1=0\n");
     }
 }
 

@@ -1,6 +1,7 @@
 //! Runs with every expected line written down by hand.
 
 mod files;
+mod positions;
 mod program;
 mod rules;
 mod situations;

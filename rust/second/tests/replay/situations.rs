@@ -10,7 +10,7 @@ fn situation_1_an_array_is_judged_in_order() {
     check_on_a_set(&[
         (operate(1, 0, &[(0, 1, 0), (0, -1, 0)]), "0 0 0"),
         (query(0, 0), "0 0 1 0 0"),
-        (operate(2, 0, &[(0, -1, 0), (0, 1, 0)]), "-1 0 0"),
+        (operate(2, 0, &[(0, -1, 0), (0, 1, 0)]), "-1@0 0 0"),
         (query(0, 0), "0 0 1 1 0"),
     ]);
 }
@@ -21,7 +21,7 @@ fn situation_2_the_largest_value() {
         (set_value(0, 0, 32_766), "0 0 0"),
         (operate(1, 0, &[(0, 1, 0)]), "0 0 0"),
         (query(0, 0), "0 32767 1 0 0"),
-        (operate(2, 0, &[(0, 1, 0)]), "34 0 0"),
+        (operate(2, 0, &[(0, 1, 0)]), "34@0 0 0"),
         (query(0, 0), "0 32767 1 0 0"),
     ]);
 }
@@ -30,8 +30,8 @@ fn situation_2_the_largest_value() {
 fn situation_3_the_smallest_amount_always_stops() {
     check_on_a_set(&[
         (set_value(0, 0, 32_767), "0 0 0"),
-        (operate(1, 0, &[(0, -32_768, NOWAIT)]), "11 0 0"),
-        (operate(1, 0, &[(0, -32_768, 0)]), "-1 0 0"),
+        (operate(1, 0, &[(0, -32_768, NOWAIT)]), "11@0 0 0"),
+        (operate(1, 0, &[(0, -32_768, 0)]), "-1@0 0 0"),
         (query(0, 0), "0 32767 0 1 0"),
     ]);
 }
@@ -71,8 +71,8 @@ fn situation_6_set_value_clears_adjustments() {
 #[test]
 fn situation_7_woken_with_34() {
     check_on_a_set(&[
-        (operate(1, 0, &[(0, 5, 0), (1, -1, 0)]), "-1 0 0"),
-        (set_value(0, 0, 32_765), "0 0 1 1=34"),
+        (operate(1, 0, &[(0, 5, 0), (1, -1, 0)]), "-1@1 0 0"),
+        (set_value(0, 0, 32_765), "0 0 1 1=34@0"),
         (query(0, 0), "0 32765 0 0 0"),
     ]);
 }
@@ -80,8 +80,8 @@ fn situation_7_woken_with_34() {
 #[test]
 fn situation_8_woken_with_11() {
     check_on_a_set(&[
-        (operate(1, 0, &[(0, 0, NOWAIT), (1, -1, 0)]), "-1 0 0"),
-        (set_value(0, 0, 1), "0 0 1 1=11"),
+        (operate(1, 0, &[(0, 0, NOWAIT), (1, -1, 0)]), "-1@1 0 0"),
+        (set_value(0, 0, 1), "0 0 1 1=11@0"),
         (query(0, 1), "0 0 0 0 0"),
     ]);
 }
@@ -91,7 +91,7 @@ fn situation_9_adjustment_out_of_range() {
     check_on_a_set(&[
         (operate(1, 0, &[(0, 32_767, UNDO)]), "0 0 0"),
         (operate(2, 0, &[(0, -1, 0)]), "0 0 0"),
-        (operate(1, 0, &[(0, 1, UNDO)]), "34 0 0"),
+        (operate(1, 0, &[(0, 1, UNDO)]), "34@0 0 0"),
         (query(0, 0), "0 32766 2 0 0"),
     ]);
 }
@@ -99,8 +99,8 @@ fn situation_9_adjustment_out_of_range() {
 #[test]
 fn situation_10_the_newer_is_woken() {
     check_on_a_set(&[
-        (operate(1, 0, &[(0, -2, 0)]), "-1 0 0"),
-        (operate(2, 0, &[(0, -1, 0)]), "-1 0 0"),
+        (operate(1, 0, &[(0, -2, 0)]), "-1@0 0 0"),
+        (operate(2, 0, &[(0, -1, 0)]), "-1@0 0 0"),
         (operate(3, 0, &[(0, 1, 0)]), "0 0 3 2=0"),
         (query(0, 0), "0 0 2 1 0"),
     ]);
@@ -108,10 +108,10 @@ fn situation_10_the_newer_is_woken() {
 
 #[test]
 fn situation_11_a_chain_of_eight() {
-    let mut run = vec![(operate(1, 0, &[(0, -1, 0)]), "-1 0 0")];
+    let mut run = vec![(operate(1, 0, &[(0, -1, 0)]), "-1@0 0 0")];
     for j in 1..8 {
         let array = [(u16::from(j), -1, 0), (u16::from(j) - 1, 1, 0)];
-        run.push((operate(j + 1, 0, &array), "-1 0 0"));
+        run.push((operate(j + 1, 0, &array), "-1@0 0 0"));
     }
     run.push((set_value(0, 7, 1), "0 0 8/36 8=0 7=0 6=0 5=0 4=0 3=0 2=0 1=0"));
     check_on_a_set(&run);
@@ -120,8 +120,8 @@ fn situation_11_a_chain_of_eight() {
 #[test]
 fn situation_12_removal_ends_sleepers_and_identifiers() {
     check_on_a_set(&[
-        (operate(3, 0, &[(0, -1, 0)]), "-1 0 0"),
-        (operate(5, 0, &[(1, -1, 0)]), "-1 0 0"),
+        (operate(3, 0, &[(0, -1, 0)]), "-1@0 0 0"),
+        (operate(5, 0, &[(1, -1, 0)]), "-1@0 0 0"),
         (remove(0), "0 0 0 3=43 5=43"),
         (create(), "0 4 0"),
         (query(0, 0), "22 0 0 0 0"),
@@ -172,7 +172,7 @@ fn situation_14_a_zero_operation_sets_the_last_process() {
 fn situation_15_so_does_one_that_is_woken() {
     check_on_a_set(&[
         (set_value(0, 0, 1), "0 0 0"),
-        (operate(2, 0, &[(0, 0, 0), (1, 0, 0)]), "-1 0 0"),
+        (operate(2, 0, &[(0, 0, 0), (1, 0, 0)]), "-1@0 0 0"),
         (query(0, 0), "0 1 0 0 1"),
         (query(0, 1), "0 0 0 0 0"),
         (operate(3, 0, &[(0, -1, 0)]), "0 0 1 2=0"),

@@ -8,7 +8,8 @@ use vairolent::{Answer, Error, Host, Operation, Semaphore, Wakings};
 /// What an event told.
 pub enum Told {
     Refused(Error),
-    Asleep,
+    /// Which operation stopped.
+    Asleep(usize),
     /// A create's identifier.
     Made(i32),
     Done(Wakings),
@@ -22,7 +23,7 @@ pub fn run(host: &mut Host, event: &Event, operations: &[Operation]) -> Told {
         Event::Operate { process, identifier, .. } => {
             host.operate(process, identifier, operations).map(|answer| match answer {
                 Answer::Done(wakings) => Told::Done(wakings),
-                Answer::Asleep => Told::Asleep,
+                Answer::Asleep { position } => Told::Asleep(position),
             })
         }
         Event::SetValue { identifier, number, value } => {

@@ -75,7 +75,8 @@ fn refused_while_asleep() {
     assert_eq!(host.set_value(set, 1, VALUE_MAX.into()).map(listed), Ok(vec![]));
     let wakings = done(&mut host, 3, set, &[ADD]);
     assert_eq!(wakings.looks(), 2);
-    assert_eq!(listed(wakings), [(1, Ending::WouldSleep), (2, Ending::OutOfRange)]);
+    let wanted = [(1, Ending::WouldSleep { position: 1 }), (2, Ending::OutOfRange { position: 1 })];
+    assert_eq!(listed(wakings), wanted);
     assert_eq!(host.query(set, 0).map(|semaphore| semaphore.value), Ok(1));
 }
 

@@ -2,6 +2,7 @@
 
 mod endings;
 mod hosts;
+mod positions;
 mod refusals;
 mod texts;
 mod traffic;
@@ -18,6 +19,6 @@ fn with_set(count: u8) -> (Host, i32) {
 /// Puts processes to sleep, one after the other.
 fn sleep(host: &mut Host, set: i32, processes: &[u8], operations: &[Operation]) {
     for &process in processes {
-        assert_eq!(host.operate(process, set, operations), Ok(Answer::Asleep));
+        assert!(matches!(host.operate(process, set, operations), Ok(Answer::Asleep { .. })));
     }
 }

@@ -79,12 +79,15 @@ fn operate_by_its_judging() {
     let (mut host, set) = with_set(2);
     let other = Operation::new(1, 5);
     let would_sleep = [other, TAKE.nowait()];
-    refused(&mut host, Error::WouldSleep, |host| host.operate(1, set, &would_sleep));
+    let wanted = Error::WouldSleep { position: 1 };
+    refused(&mut host, wanted, |host| host.operate(1, set, &would_sleep));
     let value_over = [other, Operation::new(0, i16::MAX), ADD];
-    refused(&mut host, Error::OutOfRange, |host| host.operate(1, set, &value_over));
+    let wanted = Error::OutOfRange { position: 2 };
+    refused(&mut host, wanted, |host| host.operate(1, set, &value_over));
     let up = Operation::new(0, i16::MAX).undo();
-    let adjustment_under = [up, Operation::new(0, -i16::MAX), ADD.undo()];
-    refused(&mut host, Error::OutOfRange, |host| host.operate(1, set, &adjustment_under));
+    let adjustment_under = [up, Operation::new(0, -i16::MAX), other, ADD.undo(), TAKE];
+    let wanted = Error::OutOfRange { position: 3 };
+    refused(&mut host, wanted, |host| host.operate(1, set, &adjustment_under));
 }
 
 #[test]
@@ -97,7 +100,7 @@ fn set_value() {
         refused(&mut host, Error::Invalid, |host| host.set_value(set, number, -1));
     }
     for value in [-1, i32::from(VALUE_MAX) + 1, 65_536, i32::MIN, i32::MAX] {
-        refused(&mut host, Error::OutOfRange, |host| host.set_value(set, 1, value));
+        refused(&mut host, Error::BadValue, |host| host.set_value(set, 1, value));
     }
     assert!(host.set_value(set, 1, VALUE_MAX.into()).is_ok());
     assert_eq!(host.query(set, 1).map(|semaphore| semaphore.value), Ok(VALUE_MAX));

@@ -6,6 +6,11 @@ use vairolent::{Answer, Ending, Error, Host, Operation};
 
 use crate::{sleep, with_set};
 
+/// How a position is written.
+fn place(position: Option<usize>) -> String {
+    position.map_or(String::new(), |position| format!(" at operation {position}"))
+}
+
 #[test]
 fn errors() {
     let all = [
@@ -16,12 +21,20 @@ fn errors() {
         (Error::NoSemaphore, "EFBIG (27): a semaphore number is at or above the set's count"),
         (Error::NotPermitted, "EACCES (13): not permitted"),
         (Error::NoSlot, "ENOSPC (28): no slot is free"),
-        (Error::WouldSleep, "EAGAIN (11): an operation with IPC_NOWAIT would sleep"),
-        (Error::OutOfRange, "ERANGE (34): a value or an adjustment would leave its range"),
+        (Error::BadValue, "ERANGE (34): the value is not 0 to 32,767"),
+        (
+            Error::WouldSleep { position: 0 },
+            "EAGAIN (11) at operation 0: an operation with IPC_NOWAIT would sleep",
+        ),
+        (
+            Error::OutOfRange { position: 7 },
+            "ERANGE (34) at operation 7: a value or an adjustment would leave its range",
+        ),
     ];
     for (error, wanted) in all {
         assert_eq!(error.to_string(), wanted);
-        assert!(wanted.starts_with(&format!("{} ({}): ", error.name(), error.code())));
+        let place = place(error.position());
+        assert!(wanted.starts_with(&format!("{} ({}){place}: ", error.name(), error.code())));
     }
     let boxed: Box<dyn error::Error + Send + Sync> = Error::NoSlot.into();
     assert_eq!(boxed.to_string(), "ENOSPC (28): no slot is free");
@@ -31,14 +44,21 @@ fn errors() {
 fn endings() {
     let all = [
         (Ending::Done, "done (0)"),
-        (Ending::WouldSleep, "EAGAIN (11): an operation with IPC_NOWAIT would sleep"),
-        (Ending::OutOfRange, "ERANGE (34): a value or an adjustment would leave its range"),
+        (
+            Ending::WouldSleep { position: 7 },
+            "EAGAIN (11) at operation 7: an operation with IPC_NOWAIT would sleep",
+        ),
+        (
+            Ending::OutOfRange { position: 0 },
+            "ERANGE (34) at operation 0: a value or an adjustment would leave its range",
+        ),
         (Ending::Removed, "EIDRM (43): its set was removed"),
         (Ending::Interrupted, "EINTR (4): a signal interrupted it"),
     ];
     for (ending, wanted) in all {
         assert_eq!(ending.to_string(), wanted);
-        assert!(wanted.starts_with(&format!("{} ({})", ending.name(), ending.code())));
+        let place = place(ending.position());
+        assert!(wanted.starts_with(&format!("{} ({}){place}", ending.name(), ending.code())));
     }
 }
 
@@ -47,7 +67,7 @@ fn answers_and_wakings() {
     let (mut host, set) = with_set(1);
     let take = [Operation::new(0, -1)];
     let text = |answer: Result<Answer, Error>| answer.map(|answer| answer.to_string());
-    assert_eq!(text(host.operate(3, set, &take)), Ok("asleep (-1)".into()));
+    assert_eq!(text(host.operate(3, set, &take)), Ok("asleep (-1) at operation 0".into()));
     sleep(&mut host, set, &[2, 4], &take);
     let wanted = "done (0), 3 looks; process 3: done (0)";
     assert_eq!(text(host.operate(1, set, &[Operation::new(0, 1)])), Ok(wanted.into()));
@@ -57,6 +77,22 @@ fn answers_and_wakings() {
     assert_eq!(wakings.to_string(), wanted);
     let wanted = "Wakings { looks: 0, rest: [Waking { process: 2, ending: Removed }, \
                   Waking { process: 4, ending: Removed }] }";
+    assert_eq!(format!("{wakings:?}"), wanted);
+}
+
+#[test]
+fn a_waking_with_a_position() {
+    let (mut host, set) = with_set(2);
+    let operations = [Operation::new(0, -1), Operation::new(1, 0).nowait()];
+    sleep(&mut host, set, &[3], &operations);
+    sleep(&mut host, set, &[4], &operations[..1]);
+    assert_eq!(host.set_value(set, 1, 5).map(|wakings| wakings.to_string()), Ok("1 look".into()));
+    let wakings = host.set_value(set, 0, 1).expect("set");
+    let wanted = "2 looks; process 3: EAGAIN (11) at operation 1: an operation with IPC_NOWAIT \
+                  would sleep; process 4: done (0)";
+    assert_eq!(wakings.to_string(), wanted);
+    let wanted = "Wakings { looks: 2, rest: [Waking { process: 3, ending: WouldSleep { position: \
+                  1 } }, Waking { process: 4, ending: Done }] }";
     assert_eq!(format!("{wakings:?}"), wanted);
 }
 

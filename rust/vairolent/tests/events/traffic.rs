@@ -1,9 +1,9 @@
-//! Events with arbitrary arguments: each is answered, refusals change nothing, and only sleepers
-//! wake.
+//! Events with arbitrary arguments: each is answered, refusals change nothing, only sleepers wake,
+//! and what has a position is as that operation decides it.
 
-use std::collections::BTreeSet;
+use std::collections::{BTreeMap, BTreeSet};
 
-use vairolent::{Answer, Ending, Error, Host, Operation, Wakings, ALL};
+use vairolent::{Answer, Ending, Error, Host, Operation, Waking, Wakings, ALL};
 
 const EVENTS: usize = 200_000;
 
@@ -42,14 +42,42 @@ impl Random {
     }
 }
 
-/// A host, and what is known of it.
+/// An operate, as it is handed in.
+struct Call {
+    process: u8,
+    identifier: i32,
+    operations: Vec<Operation>,
+}
+
+impl Call {
+    /// What becomes of its first so many operations.
+    fn first(&self, count: usize, host: &Host) -> Result<Answer, Error> {
+        host.clone().operate(self.process, self.identifier, &self.operations[..count])
+    }
+
+    /// If there is a position: the operations before it go through by themselves, and with it they
+    /// are answered as all are.
+    fn check(&self, host: &Host, answer: &Result<Answer, Error>) {
+        let position = match answer {
+            Ok(Answer::Done(_)) => None,
+            Ok(Answer::Asleep { position }) => Some(*position),
+            Err(error) => error.position(),
+        };
+        if let Some(position) = position {
+            assert!(position == 0 || matches!(self.first(position, host), Ok(Answer::Done(_))));
+            assert_eq!(self.first(position + 1, host), *answer);
+        }
+    }
+}
+
+/// A host, and what is known of it. Errors and endings are codes and positions.
 struct Traffic {
     random: Random,
     host: Host,
     sets: Vec<i32>,
-    asleep: BTreeSet<u8>,
-    errors: BTreeSet<i32>,
-    endings: BTreeSet<i32>,
+    asleep: BTreeMap<u8, Call>,
+    errors: BTreeSet<(i32, Option<usize>)>,
+    endings: BTreeSet<(i32, Option<usize>)>,
 }
 
 impl Traffic {
@@ -58,7 +86,7 @@ impl Traffic {
             random: Random(0x5EED),
             host: Host::new(),
             sets: Vec::new(),
-            asleep: BTreeSet::new(),
+            asleep: BTreeMap::new(),
             errors: BTreeSet::new(),
             endings: BTreeSet::new(),
         }
@@ -86,7 +114,7 @@ impl Traffic {
         };
         if let Err(error) = refused {
             assert_eq!(self.host, before, "{error}");
-            self.errors.insert(error.code());
+            self.errors.insert((error.code(), error.position()));
         }
     }
 
@@ -101,11 +129,13 @@ impl Traffic {
         let (process, identifier) = (self.process(), self.identifier());
         let length = if self.random.below(20) == 0 { self.random.below(12) } else { 2 };
         let operations: Vec<Operation> = (0..length).map(|_| self.random.operation()).collect();
-        let asleep = self.asleep.contains(&process);
-        let answer = self.host.operate(process, identifier, &operations);
-        assert_eq!(answer == Err(Error::ProcessAsleep), asleep);
+        let call = Call { process, identifier, operations };
+        let before = self.host.clone();
+        let answer = self.host.operate(process, identifier, &call.operations);
+        assert_eq!(answer == Err(Error::ProcessAsleep), self.asleep.contains_key(&process));
+        call.check(&before, &answer);
         match answer? {
-            Answer::Asleep => assert!(self.asleep.insert(process)),
+            Answer::Asleep { .. } => assert!(self.asleep.insert(process, call).is_none()),
             Answer::Done(wakings) => self.wake(wakings),
         }
         Ok(())
@@ -130,7 +160,7 @@ impl Traffic {
     fn signal(&mut self) -> Result<(), Error> {
         let process = self.process();
         let wakings = self.host.signal(process)?;
-        assert_eq!(wakings.len(), usize::from(self.asleep.contains(&process)));
+        assert_eq!(wakings.len(), usize::from(self.asleep.contains_key(&process)));
         self.wake(wakings);
         Ok(())
     }
@@ -155,20 +185,34 @@ impl Traffic {
         Ok(())
     }
 
+    /// Who is ended with a position would be refused so once more, unless somebody who was done
+    /// behind it changed the state.
     fn wake(&mut self, wakings: Wakings) {
-        for waking in wakings {
-            assert!(self.asleep.remove(&waking.process), "{waking}");
-            self.endings.insert(waking.ending.code());
+        let woken: Vec<Waking> = wakings.collect();
+        let last_done = woken.iter().rposition(|waking| waking.ending == Ending::Done);
+        for (at, waking) in woken.iter().enumerate() {
+            let call = self.asleep.remove(&waking.process).expect("only sleepers wake");
+            let ending = (waking.ending.code(), waking.ending.position());
+            if ending.1.is_some() && last_done <= Some(at) {
+                let again = call.first(call.operations.len(), &self.host);
+                let error = again.expect_err("refused once more");
+                assert_eq!((error.code(), error.position()), ending);
+            }
+            self.endings.insert(ending);
         }
     }
 }
 
+/// Each with a position comes with the first and with the second; later ones come now and then.
 #[test]
 fn every_error_and_every_ending_comes() {
     let mut traffic = Traffic::new();
     for _ in 0..EVENTS {
         traffic.event();
     }
+    let early = |&(_, position): &(i32, Option<usize>)| position <= Some(1);
+    traffic.errors.retain(early);
+    traffic.endings.retain(early);
     let errors = [
         Error::NoProcess,
         Error::ProcessAsleep,
@@ -177,16 +221,21 @@ fn every_error_and_every_ending_comes() {
         Error::NoSemaphore,
         Error::NotPermitted,
         Error::NoSlot,
-        Error::WouldSleep,
-        Error::OutOfRange,
+        Error::BadValue,
+        Error::WouldSleep { position: 0 },
+        Error::WouldSleep { position: 1 },
+        Error::OutOfRange { position: 0 },
+        Error::OutOfRange { position: 1 },
     ];
-    assert_eq!(traffic.errors, errors.map(Error::code).into());
+    assert_eq!(traffic.errors, errors.map(|error| (error.code(), error.position())).into());
     let endings = [
         Ending::Done,
-        Ending::WouldSleep,
-        Ending::OutOfRange,
+        Ending::WouldSleep { position: 0 },
+        Ending::WouldSleep { position: 1 },
+        Ending::OutOfRange { position: 0 },
+        Ending::OutOfRange { position: 1 },
         Ending::Removed,
         Ending::Interrupted,
     ];
-    assert_eq!(traffic.endings, endings.map(Ending::code).into());
+    assert_eq!(traffic.endings, endings.map(|ending| (ending.code(), ending.position())).into());
 }

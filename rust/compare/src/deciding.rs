@@ -1,0 +1,90 @@
+//! Arrays that any of eight operations decides: by a look, before, at or behind the operation where
+//! the call went to sleep, and then at once.
+
+use second::event::{self, Operation};
+use second::{NOWAIT, UNDO};
+
+use crate::choice::{narrow, MAX};
+use crate::random::Rng;
+use crate::scene::Scene;
+
+/// A call that sleeps, and the change of a value that ends it.
+struct Plan {
+    /// What is set first.
+    values: Vec<(u16, i32)>,
+    /// What the sleeper takes from the semaphore beforehand, with undo.
+    taken: i32,
+    array: Vec<Operation>,
+    /// The semaphore that changes, and its values.
+    number: u16,
+    from: i32,
+    to: i32,
+}
+
+/// A sleeper is ended by a set value, an operate or an exit, and calls again.
+pub fn deciding(scene: &mut Scene) {
+    let target = scene.open_set(3);
+    let id = target.identifier;
+    let (holder, sleeper) = scene.two_callers();
+    let mut numbers: Vec<u16> = (0..target.values.len() as u16).collect();
+    scene.rng.shuffle(&mut numbers);
+    let Plan { values, taken, array, number, from, to } = plan(&mut scene.rng, &numbers);
+    for (number, value) in values {
+        scene.push(event::set_value(id, number, value));
+    }
+    if taken > 0 {
+        scene.push(event::operate(sleeper, id, &[(number, narrow(-taken), UNDO)]));
+    }
+    // The value stays as it is, and would change at the holder's exit.
+    let change = narrow(to - from);
+    scene.push(event::operate(holder, id, &[(number, change, 0), (number, -change, UNDO)]));
+    scene.push(event::operate(sleeper, id, &array));
+    let end = match scene.rng.below(3) {
+        0 => event::set_value(id, number, to),
+        1 => event::operate(holder, id, &[(number, change, 0)]),
+        _ => event::exit(holder),
+    };
+    scene.push(end);
+    scene.push(event::operate(sleeper, id, &array));
+}
+
+fn plan(rng: &mut Rng, numbers: &[u16]) -> Plan {
+    let (a, b, idle) = (numbers[0], numbers[1], (numbers[2], 1, 0));
+    let step = rng.between(1, 9);
+    // An operation that goes through with the first value and not with the second.
+    let (good, bad, fails) = match rng.below(3) {
+        0 => (MAX - step, MAX, (a, narrow(step), rng.pick(&[0, UNDO]))),
+        1 => (0, step, (a, 0, NOWAIT)),
+        _ => (step, 0, (a, narrow(-step), NOWAIT)),
+    };
+    let waits = (b, -1, 0);
+    match rng.below(3) {
+        0 => {
+            let at = rng.below(7);
+            let array = placed(idle, &[(at, fails), (at + 1 + rng.below(7 - at), waits)]);
+            let values = vec![(a, good), (b, 0)];
+            Plan { values, taken: 0, array, number: a, from: good, to: bad }
+        }
+        1 => {
+            let at = 1 + rng.below(7);
+            let array = placed(idle, &[(rng.below(at), waits), (at, fails)]);
+            let values = vec![(a, bad), (b, 0)];
+            Plan { values, taken: 0, array, number: b, from: 0, to: 1 }
+        }
+        // The sleeper holds all that an adjustment can be, and takes more.
+        _ => {
+            let array = placed(idle, &[(rng.below(8), (a, narrow(-step), UNDO))]);
+            Plan { values: vec![(a, MAX)], taken: MAX, array, number: a, from: 0, to: step }
+        }
+    }
+}
+
+/// The operations at their positions, and the idle one wherever there is none before the last.
+fn placed(idle: Operation, operations: &[(usize, Operation)]) -> Vec<Operation> {
+    let length = operations.last().map_or(0, |(position, _)| position + 1);
+    let mut array = vec![idle; length];
+    for &(position, operation) in operations {
+        array[position] = operation;
+    }
+    array
+}

@@ -1,0 +1,93 @@
+//! The arrays that processes sleep on, as the answers tell.
+
+use std::collections::BTreeMap;
+
+use crate::answer::{Answer, Waking};
+use crate::event::Event;
+use crate::operation::{added, Operation};
+
+/// The array of a call, and the set that it is for.
+#[derive(Clone, Copy, Debug, PartialEq, Eq)]
+pub struct Call<'a> {
+    pub identifier: i32,
+    pub operations: &'a [Operation],
+}
+
+/// By process the last call that went to sleep, which is the one that a waking ends.
+#[derive(Default)]
+pub struct Sleepers<'a>(BTreeMap<u8, Call<'a>>);
+
+impl<'a> Sleepers<'a> {
+    /// Keeps the call of an operate that is answered with sleep.
+    pub fn note(&mut self, event: &'a Event, answer: &Answer) {
+        if let (Event::Operate { process, identifier, operations }, -1) = (event, answer.code()) {
+            self.0.insert(*process, Call { identifier: *identifier, operations });
+        }
+    }
+
+    pub fn call(&self, process: u8) -> Option<Call<'a>> {
+        self.0.get(&process).copied()
+    }
+
+    /// What those of the wakings that are done add to a semaphore of a set together. The array of
+    /// each is applied, which adds its amounts.
+    pub fn applied(&self, wakings: &[Waking], identifier: i32, number: u16) -> Option<i32> {
+        let mut sum = 0;
+        for waking in wakings.iter().filter(|waking| waking.code == 0) {
+            let call = self.call(waking.process)?;
+            if call.identifier == identifier {
+                sum += added(call.operations, number);
+            }
+        }
+        Some(sum)
+    }
+}
+
+#[cfg(test)]
+mod tests {
+    use super::*;
+    use crate::parse;
+
+    fn events(text: &str) -> Vec<Event> {
+        parse::events(text.as_bytes()).expect("events")
+    }
+
+    fn asleep(events: &[Event], codes: [i32; 4]) -> Sleepers<'_> {
+        let mut sleepers = Sleepers::default();
+        for (event, code) in events.iter().zip(codes) {
+            let answer =
+                Answer::Report { code, position: None, value: 0, looks: 0, wakings: vec![] };
+            sleepers.note(event, &answer);
+        }
+        sleepers
+    }
+
+    #[test]
+    fn the_last_call_that_sleeps_is_kept() {
+        let events = events(
+            "operate 1 set=0 0:-1\nexit 1\noperate 1 set=4 0:-2 1:0\noperate 1 set=4 0:-3\n",
+        );
+        let sleepers = asleep(&events, [-1, 0, -1, 16]);
+        let call = sleepers.call(1).expect("it sleeps");
+        assert_eq!((call.identifier, call.operations.len()), (4, 2));
+        assert_eq!(sleepers.call(2), None);
+    }
+
+    /// Process 3 sleeps on another set, and 4 is ended without being applied.
+    #[test]
+    fn done_arrays_of_the_set_are_added() {
+        let events = events(
+            "operate 1 set=0 0:-1 1:+5\noperate 2 set=0 0:-2 0:+4\n\
+            operate 3 set=1 0:+100\noperate 4 set=0 0:+1000",
+        );
+        let sleepers = asleep(&events, [-1; 4]);
+        let waking = |process, code| Waking { process, code, position: None };
+        let wakings = [waking(1, 0), waking(3, 0), waking(4, 34), waking(2, 0)];
+        assert_eq!(sleepers.applied(&wakings, 0, 0), Some(1));
+        assert_eq!(sleepers.applied(&wakings, 0, 1), Some(5));
+        assert_eq!(sleepers.applied(&wakings, 1, 0), Some(100));
+        assert_eq!(sleepers.applied(&wakings[..1], 0, 0), Some(-1));
+        assert_eq!(sleepers.applied(&[], 0, 0), Some(0));
+        assert_eq!(sleepers.applied(&[waking(5, 0)], 0, 0), None);
+    }
+}
