@@ -133,14 +133,14 @@ pub enum Event {
     },
 }
 
-// What an event tells, beside the wakings in the list that it was lent: its code, its value, its looks, how many it woke, and
-// the operation that decided.
+// What an event tells, beside the wakings in the list that it was lent: the operation that decided, its code, its value, its
+// looks, and how many it woke.
 pub struct Told {
+    pub position: Position,
     pub code: i32,
     pub value: u32,
     pub looks: usize,
     pub woken: usize,
-    pub position: Position,
 }
 
 // What a query answers; its looks are 0 like those of every event that wakes nobody. The host stays as it is.

@@ -24,11 +24,11 @@ fn quiet(code: u8, value: u32) -> Told
     ensures { λ r. ⌜ r ≡ telling (pos code) value 0 0 ⌝ }
 {
     Told {
+        position: Position::Nowhere,
         code: answer(code),
         value: value,
         looks: 0,
         woken: 0,
-        position: Position::Nowhere,
     }
 }
 
@@ -37,11 +37,11 @@ fn not_done(code: i32, outcome: Outcome, position: usize) -> Told
     ensures { λ r. ⌜ r ≡ tellingAt code (decidedAt outcome (position % 256)) 0 0 0 ⌝ }
 {
     Told {
+        position: decided(outcome, position),
         code: code,
         value: 0,
         looks: 0,
         woken: 0,
-        position: decided(outcome, position),
     }
 }
 
@@ -50,11 +50,11 @@ fn told(tally: Tally) -> Told
     ensures { λ r. ⌜ r ≡ telling (pos 0) 0 (tally .looks) (tally .woken) ⌝ }
 {
     Told {
+        position: Position::Nowhere,
         code: 0,
         value: 0,
         looks: tally.looks,
         woken: tally.woken,
-        position: Position::Nowhere,
     }
 }
 

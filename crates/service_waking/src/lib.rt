@@ -69,13 +69,12 @@ fn ending(outcome: Outcome) -> u8
     }
 }
 
-// What a look told: the copies of the values and of the adjustments as the operations leave them, the position where judging
-// ended, and the outcome. The copies stand first: behind the one byte of an outcome they would be read across words, which takes
-// longer.
+// What a look told: the position where judging ended, the copies of the values and of the adjustments as the operations leave
+// them, and the outcome. It stands last: behind its one byte the copies would be read across words, which takes longer.
 struct Looked {
+    pub position: usize,
     pub values: [u16; SEMAPHORES],
     pub undo: [i16; SEMAPHORES],
-    pub position: usize,
     pub outcome: Outcome,
 }
 
@@ -91,9 +90,9 @@ fn look(host: &[u8; HOST_BYTES], adjustments: &[i16; ALL_ADJUSTMENTS], at: usize
     let verdict = judge(&mut values, &mut undo, array_of(host, process));
     let outcome = verdict.outcome;
     Looked {
+        position: verdict.position,
         values: values,
         undo: undo,
-        position: verdict.position,
         outcome: outcome,
     }
 }

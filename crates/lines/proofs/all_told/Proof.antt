@@ -24,13 +24,13 @@ abbrev of-told : tie.After-struct-told → tie.Start
 of-told c = c .before .before .before
 
 code-fits : (c : tie.After-struct-told) → SFits w32 (of-told c .args .t .code)
-code-fits c = record { sfits = c .struct-told .given .0 .1 }
+code-fits c = record { sfits = c .struct-told .given .1 .0 .1 }
 
 value-fits : (c : tie.After-struct-told) → Fits w32 (of-told c .args .t .value)
-value-fits c = record { fits = c .struct-told .given .1 .0 .1 }
+value-fits c = record { fits = c .struct-told .given .1 .1 .0 .1 }
 
 looks-fit : (c : tie.After-struct-told) → Fits w64 (of-told c .args .t .looks)
-looks-fit c = record { fits = c .struct-told .given .1 .1 .0 .1 }
+looks-fit c = record { fits = c .struct-told .given .1 .1 .1 .0 .1 }
 
 opening-requires : tie.Need-opening-requires
 opening-requires c κs = search needs

@@ -9,7 +9,7 @@ decided-of-requires : tie.Need-decided-of-requires
 decided-of-requires c κs = search needs
 
 returns : tie.Need-returns
-returns c = rw (toZ-ofZ {w = w32} {z = c .before .before .args .told .code} (record { sfits = c .struct-told .given .0 .1 }), c .before .decided-of .ensures)
+returns c = rw (toZ-ofZ {w = w32} {z = c .before .before .args .told .code} (record { sfits = c .struct-told .given .1 .0 .1 }), c .before .decided-of .ensures)
 
 pub report-spec : {M : Type 1} → statement M
 report-spec = tie.close (tie.spec decided-of-requires returns)
