@@ -36,6 +36,11 @@ function told(said) {
     if (said ~ /must be a path whose two ends are equal/) return "what `rw` leaves has to be a path whose two ends are equal, and is none"
     if (said ~ /^expected type /) {
         sub(/^expected type /, "", said)
+        # short types stand in one line
+        if (match(said, /, but this has type /)) {
+            found = substr(said, RSTART + RLENGTH)
+            said = substr(said, 1, RSTART - 1)
+        }
         sub(/^ *but this has type /, "", found)
         return "expected " term(said, 60) ", found " term(brief(found), 60)
     }

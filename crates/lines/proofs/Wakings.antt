@@ -1,6 +1,6 @@
 -- The wakings of a line, one more at a time.
 use Prim.Native.Nat.{ℕ, _+_, _<_}
-use mathlib.Core.Path.{_≡_, refl, ap, _∙_}
+use mathlib.Core.Path.{_≡_, refl, ap}
 use mathlib.Core.List.{List, [], _∷_, _++_, append-assoc, append-nil, map, map-append}
 use native.Mathlib.Numerals.{add-one}
 use lib.ListN.{length, getD, take}

@@ -122,13 +122,20 @@ position-small t s f =
 
 -- ---- the operation that is named
 
+-- two positions are there and the same, or one is not
+same-at : {i k : ℕ} → At i ≡ At k → i ≡ k
+same-at e = cc
+
+not-there : {k : ℕ} → Nowhere ≡ At k → ⊥
+not-there e = let z : _≡_ {A = ℕ} 0 1 = cc in omega arith
+
 -- judging that names an operation is not done, and it is at the position where judging ended
 named-at : (x : Outcome) (n i : ℕ) → decidedAt x n ≡ At i → (x ≢ Done) × (n ≡ i)
 unfolding decidedAt
-named-at Done n i e = let z : _≡_ {A = ℕ} 0 1 = cc in absurd (omega arith)
-named-at Sleep n i e = (λ (d : Sleep ≡ Done). let z : _≡_ {A = ℕ} 0 1 = cc in omega arith, cc)
-named-at Again n i e = (λ (d : Again ≡ Done). let z : _≡_ {A = ℕ} 0 1 = cc in omega arith, cc)
-named-at Range n i e = (λ (d : Range ≡ Done). let z : _≡_ {A = ℕ} 0 1 = cc in omega arith, cc)
+named-at Done n i e = absurd (not-there e)
+named-at Sleep n i e = (λ (d : Sleep ≡ Done). let z : _≡_ {A = ℕ} 0 1 = cc in omega arith, same-at e)
+named-at Again n i e = (λ (d : Again ≡ Done). let z : _≡_ {A = ℕ} 0 1 = cc in omega arith, same-at e)
+named-at Range n i e = (λ (d : Range ≡ Done). let z : _≡_ {A = ℕ} 0 1 = cc in omega arith, same-at e)
 
 -- it decides
 pub decides : (start : Copies) (os : List Operation) (i : ℕ) → positionOf (judge start os) ≡ At i → Decides start os i
@@ -182,7 +189,7 @@ checked-named (suc code) s r P n h = n
 operated-named : (wake : Waker) (s : State) (c : Sleeper) (x : Outcome) (copies : Copies) (k : ℕ)
     → operated wake s c x (positionOf (look (s .table) c)) copies .answer .position ≡ At k → Decides (copiesOf (s .table) c) (operationsOf (c .array)) k
 unfolding operated
-operated-named wake s c Done copies k e = let z : _≡_ {A = ℕ} 0 1 = cc in absurd (omega arith)
+operated-named wake s c Done copies k e = absurd (not-there e)
 operated-named wake s c Sleep copies k e = look-decides (s .table) c k e
 operated-named wake s c Again copies k e = look-decides (s .table) c k e
 operated-named wake s c Range copies k e = look-decides (s .table) c k e
@@ -192,7 +199,7 @@ unfolding event doCreate doOperate doSetValue doRemove doSignal doExit doQuery
 answer-named engine s (create count read alter) = checked-named (checkCreate s count) s _ (λ at. at ≡ Nowhere) refl refl
 answer-named engine s (operate p i bytes) =
     checked-named (checkOperate s p i bytes) s _ (λ at. (k : ℕ) → at ≡ At k → Decides (copiesOf (s .table) (call p i bytes)) (operationsOf bytes) k)
-    (λ k e. let z : _≡_ {A = ℕ} 0 1 = cc in absurd (omega arith))
+    (λ k e. absurd (not-there e))
     (operated-named (waker engine) s (call p i bytes) _ _)
 answer-named engine s (setValue i n v) = checked-named (checkSetValue s i n v) s _ (λ at. at ≡ Nowhere) refl refl
 answer-named engine s (remove i) = checked-named (checkSet s i) s _ (λ at. at ≡ Nowhere) refl refl

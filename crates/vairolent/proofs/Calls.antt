@@ -9,7 +9,7 @@ use Rattle.host.specs.Holding.{Host}
 use Rattle.wakings.specs.Wakings.{Place}
 use Rattle.service.specs.After.{After}
 use Rattle.vairolent.specs.declared.Reported.{Reported}
-use Rattle.vairolent.specs.Handed.{decidedOf, reportOf, Handed, handedOf, positionBy, toldBy, afterBy}
+use Rattle.vairolent.specs.Handed.{decidedOf, reportOf, Handed, handedOf, positionBy, afterBy}
 
 -- what an export returns, from what the service tells
 pub handed : {x : Host} {l : List Place} {t : Told} {r : Reported} {y : After} → r ≡ reportOf t → record { host = x; wakings = l; told = t } ≡ y

@@ -1,6 +1,6 @@
 -- What an event leaves and tells, as a caller in another language has it.
 use Prim.Native.Nat.{ℕ}
-use mathlib.Core.Bool.{Bool, true, false, cond}
+use mathlib.Core.Bool.{true, false, cond}
 use mathlib.Core.List.{List}
 use lib.IntN.{ℤ}
 use Rattle.model.specs.declared.Position.{Position}

@@ -15,8 +15,7 @@ use Rattle.model.specs.declared.Position.{Position}
 use Rattle.model.specs.declared.Position.the-variants.{Nowhere, At}
 use Rattle.model.specs.declared.Waking.{Waking}
 use Rattle.model.specs.Limits.{processes}
-use Rattle.model.specs.Waking.{waking}
-use Rattle.wakings.specs.Wakings.{Place, placeAt, placesFrom, placesIn, placeOf, decidedByte, positionByte, positionIn, wakingIn, noWaking, listOf, wakingsIn}
+use Rattle.wakings.specs.Wakings.{Place, placeAt, placesFrom, placesIn, placeOf, positionIn, wakingIn, noWaking, listOf, wakingsIn}
 
 -- ---- reading
 

@@ -1,7 +1,6 @@
 -- `lines::woke` meets its contract.
 use mathlib.Core.List.{_∷_, _++_}
 use native.Mathlib.Omega.{arith}
-use lib.IntN.{pos}
 use mir.Syntax.{w8}
 use borrow.Author.Needs.{needs}
 use Rattle.lines.specs.Text.{blank, equals, digitsOf, signedOf, wakingText}
