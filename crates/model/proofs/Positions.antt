@@ -30,7 +30,7 @@ use Rattle.model.specs.Checks.{live, slotOf, checkCreate, checkOperate, 
 use Rattle.model.specs.Events.{Event, create, operate, setValue, remove, signal, exit, query, Result, checked, endedWith, operated, call, treat, treatFrom, event, doCreate, doOperate, doSetValue, doRemove, doSignal, doExit, doQuery}
 use Rattle.model.specs.Runs.{All, none, also}
 use Rattle.model.specs.Invariant.{Fits}
-use Rattle.model.specs.Positions.{Decides, WakingNamed, done, again, range, removed, signalled, Named, Names}
+use Rattle.model.specs.Positions.{Decides, WakingNamed, done, again, range, removed, signalled, CallNamed, Named, Names}
 use Rattle.model.proofs.Lists.{all-append}
 use Rattle.model.proofs.JudgeLaws.{either}
 use Rattle.model.proofs.Rules.{tame}
@@ -185,7 +185,7 @@ checked-named : (code : ℕ) (s : State) (r : Result) (P : Position → Type 0) 
 checked-named zero s r P n h = h
 checked-named (suc code) s r P n h = n
 
--- an operate names the operation that decides its call
+-- an operate names the operation that decides its call, and the one that decides
 operated-named : (wake : Waker) (s : State) (c : Sleeper) (x : Outcome) (copies : Copies) (k : ℕ)
     → operated wake s c x (positionOf (look (s .table) c)) copies .answer .position ≡ At k → Decides (copiesOf (s .table) c) (operationsOf (c .array)) k
 unfolding operated
@@ -194,13 +194,38 @@ operated-named wake s c Sleep copies k e = look-decides (s .table) c k e
 operated-named wake s c Again copies k e = look-decides (s .table) c k e
 operated-named wake s c Range copies k e = look-decides (s .table) c k e
 
+operated-decider : (wake : Waker) (s : State) (c : Sleeper) (x : Outcome) (at : Position) (copies : Copies) → x ≢ Done → operated wake s c x at copies .answer .position ≡ at
+unfolding operated
+operated-decider wake s c Done at copies n = absurd (n refl)
+operated-decider wake s c Sleep at copies n = refl
+operated-decider wake s c Again at copies n = refl
+operated-decider wake s c Range at copies n = refl
+
+module _ (wake : Waker) (s : State) (p : ℕ) (i : ℤ) (bytes : List ℕ) where
+  abbrev c : Sleeper
+  c = call p i bytes
+
+  call-decider : checkOperate s p i bytes ≡ 0 → (k : ℕ) → Decides (copiesOf (s .table) c) (operationsOf bytes) k → doOperate wake s p i bytes .answer .position ≡ At k
+  unfolding doOperate look
+  call-decider z k d =
+      rw z (operated-decider wake s c (look (s .table) c .outcome) (positionOf (look (s .table) c)) (look (s .table) c .copies) (d .stops)
+      ∙ decider (copiesOf (s .table) c) (operationsOf bytes) k d)
+
+  call-named : CallNamed s p i bytes (doOperate wake s p i bytes .answer)
+  unfolding doOperate
+  call-named =
+      record {
+        decides =
+            checked-named (checkOperate s p i bytes) s _ (λ at. (k : ℕ) → at ≡ At k → Decides (copiesOf (s .table) c) (operationsOf bytes) k)
+            (λ k e. absurd (not-there e))
+            (operated-named wake s c _ _);
+        decider = call-decider;
+      }
+
 answer-named : (engine : Engine) (s : State) (e : Event) → Named s e (event (waker engine) s e .answer)
 unfolding event doCreate doOperate doSetValue doRemove doSignal doExit doQuery
 answer-named engine s (create count read alter) = checked-named (checkCreate s count) s _ (λ at. at ≡ Nowhere) refl refl
-answer-named engine s (operate p i bytes) =
-    checked-named (checkOperate s p i bytes) s _ (λ at. (k : ℕ) → at ≡ At k → Decides (copiesOf (s .table) (call p i bytes)) (operationsOf bytes) k)
-    (λ k e. absurd (not-there e))
-    (operated-named (waker engine) s (call p i bytes) _ _)
+answer-named engine s (operate p i bytes) = call-named (waker engine) s p i bytes
 answer-named engine s (setValue i n v) = checked-named (checkSetValue s i n v) s _ (λ at. at ≡ Nowhere) refl refl
 answer-named engine s (remove i) = checked-named (checkSet s i) s _ (λ at. at ≡ Nowhere) refl refl
 answer-named engine s (signal p) = checked-named (checkProcess p) s _ (λ at. at ≡ Nowhere) refl refl

@@ -89,7 +89,7 @@ nothingSeen = record { last = 0; increase = 0; zero = 0; increaseMask = 0; zeroM
 abbrev pub answerAt : ℤ → Position → Answer
 answerAt code position = record { code = code; position = position; value = 0; seen = nothingSeen }
 
--- "A completed array and the checks before judging have no position."
+-- "A completed array, .. and the checks before judging have no position"
 abbrev pub answer : ℤ → Answer
 answer code = answerAt code Nowhere
 

@@ -4,7 +4,7 @@ use mathlib.Core.Path.{_≡_}
 use mathlib.Core.Logic.{_≢_}
 use mathlib.Core.List.{List}
 use lib.ListN.{length, take}
-use lib.IntN.{pos}
+use lib.IntN.{ℤ, pos}
 use Rattle.model.specs.declared.Operation.{Operation}
 use Rattle.model.specs.declared.Outcome.the-variants.{Done}
 use Rattle.model.specs.declared.Position.the-variants.{Nowhere, At}
@@ -15,6 +15,7 @@ use Rattle.model.specs.Operation.{operationsOf}
 use Rattle.model.specs.Judge.{judge}
 use Rattle.model.specs.Look.{copiesOf}
 use Rattle.model.specs.Waking.{waking}
+use Rattle.model.specs.Checks.{checkOperate}
 use Rattle.model.specs.Events.{Event, create, operate, setValue, remove, signal, exit, query, Answer, Result, call}
 use Rattle.model.specs.Runs.{All}
 
@@ -34,10 +35,16 @@ pub data WakingNamed : Waking → Type 0 where
   removed : (p : ℕ) → WakingNamed (waking p (pos 43) Nowhere)
   signalled : (p : ℕ) → WakingNamed (waking p (pos 4) Nowhere)
 
--- The operation that an event's answer names decides, on the state as it stood; only an operate's names one.
+-- The operation that an operate's answer names decides its call, on the state as it stood; and the one that decides is named, once
+-- the checks let the call through.
+pub record CallNamed (s : State) (p : ℕ) (i : ℤ) (bytes : List ℕ) (a : Answer) : Type 0 where
+  pub decides : (k : ℕ) → a .position ≡ At k → Decides (copiesOf (s .table) (call p i bytes)) (operationsOf bytes) k
+  pub decider : checkOperate s p i bytes ≡ 0 → (k : ℕ) → Decides (copiesOf (s .table) (call p i bytes)) (operationsOf bytes) k → a .position ≡ At k
+
+-- No other event's answer names one.
 abbrev pub Named : State → Event → Answer → Type 0
 Named s (create count read alter) a = a .position ≡ Nowhere
-Named s (operate p i bytes) a = (k : ℕ) → a .position ≡ At k → Decides (copiesOf (s .table) (call p i bytes)) (operationsOf bytes) k
+Named s (operate p i bytes) a = CallNamed s p i bytes a
 Named s (setValue i n v) a = a .position ≡ Nowhere
 Named s (remove i) a = a .position ≡ Nowhere
 Named s (signal p) a = a .position ≡ Nowhere
