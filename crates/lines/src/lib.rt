@@ -124,7 +124,7 @@ fn decided(out: &mut [u8], at: usize, position: Position) -> usize
     }
 }
 
-// Writes a waking as process=code, behind a blank.
+// Writes a waking as process=code, with the operation that decided, behind a blank.
 fn woke(out: &mut [u8], at: usize, process: u8, code: u8, position: Position) -> usize
     requires { ⌜ at + wakingBytes ≤ length (now out) ⌝ }
     ensures { λ r. ⌜ PutIn wakingBytes (now (out .entry)) at (wakingText process (pos code) position) (now (out .exit)) r ⌝ }

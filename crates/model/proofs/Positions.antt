@@ -23,7 +23,7 @@ use Rattle.model.specs.declared.Set.{Set}
 use Rattle.model.specs.Limits.{operations, operationBytes}
 use Rattle.model.specs.State.{State, Table, Sleeper, noSleeper}
 use Rattle.model.specs.Operation.{operationsFrom, operationsOf}
-use Rattle.model.specs.Judge.{judged, step, goOn, judgeFrom, judge, codeOf, decidedAt, positionOf, finishes}
+use Rattle.model.specs.Judge.{judged, step, goOn, judgeFrom, judge, codeOf, decidedAt, deciderOf, finishes}
 use Rattle.model.specs.Look.{copiesOf, look}
 use Rattle.model.specs.Waking.{World, Ended, Waker, waker, waking, finish}
 use Rattle.model.specs.Checks.{live, slotOf, checkCreate, checkOperate, checkNumber, checkSetValue, checkSet, checkProcess}
@@ -138,7 +138,7 @@ named-at Again n i e = (λ (d : Again ≡ Done). let z : _≡_ {A = ℕ} 0 1 = c
 named-at Range n i e = (λ (d : Range ≡ Done). let z : _≡_ {A = ℕ} 0 1 = cc in omega arith, same-at e)
 
 -- it decides
-pub decides : (start : Copies) (os : List Operation) (i : ℕ) → positionOf (judge start os) ≡ At i → Decides start os i
+pub decides : (start : Copies) (os : List Operation) (i : ℕ) → deciderOf (judge start os) ≡ At i → Decides start os i
 decides start os i e =
     let g : Goes start os start 0 = goes start os start 0 in
     let n : (judge start os .outcome ≢ Done) × (judge start os .position ≡ i) = named-at (judge start os .outcome) (judge start os .position) i e in
@@ -159,13 +159,13 @@ later : {start : Copies} {os : List Operation} (i j : ℕ) → Decides start os 
 later i j a b h = a .stops (sym (a .decides) ∙ b .before (suc i) h)
 
 -- the operation that decides is the one that is named
-pub decider : (start : Copies) (os : List Operation) (i : ℕ) → Decides start os i → positionOf (judge start os) ≡ At i
+pub decider : (start : Copies) (os : List Operation) (i : ℕ) → Decides start os i → deciderOf (judge start os) ≡ At i
 decider start os i d = named ∙ ap At (same (ltb i k) refl (ltb k i) refl)
   where
     k : ℕ
     k = judge start os .position
 
-    named : positionOf (judge start os) ≡ At (judge start os .position)
+    named : deciderOf (judge start os) ≡ At (judge start os .position)
     named = names-one (judge start os .outcome) (judge start os .position) (d .stops)
 
     same : (a : Bool) → ltb i k ≡ a → (b : Bool) → ltb k i ≡ b → k ≡ i
@@ -176,7 +176,7 @@ decider start os i d = named ∙ ap At (same (ltb i k) refl (ltb k i) refl)
 -- ---- looks and events
 
 -- a look that names an operation, and so the waking that it ends in
-pub look-decides : (t : Table) (s : Sleeper) (i : ℕ) → positionOf (look t s) ≡ At i → Decides (copiesOf t s) (operationsOf (s .array)) i
+pub look-decides : (t : Table) (s : Sleeper) (i : ℕ) → deciderOf (look t s) ≡ At i → Decides (copiesOf t s) (operationsOf (s .array)) i
 unfolding look
 look-decides t s i e = decides (copiesOf t s) (operationsOf (s .array)) i e
 
@@ -187,7 +187,7 @@ checked-named (suc code) s r P n h = n
 
 -- an operate names the operation that decides its call, and the one that decides
 operated-named : (wake : Waker) (s : State) (c : Sleeper) (x : Outcome) (copies : Copies) (k : ℕ)
-    → operated wake s c x (positionOf (look (s .table) c)) copies .answer .position ≡ At k → Decides (copiesOf (s .table) c) (operationsOf (c .array)) k
+    → operated wake s c x (deciderOf (look (s .table) c)) copies .answer .position ≡ At k → Decides (copiesOf (s .table) c) (operationsOf (c .array)) k
 unfolding operated
 operated-named wake s c Done copies k e = absurd (not-there e)
 operated-named wake s c Sleep copies k e = look-decides (s .table) c k e
@@ -208,7 +208,7 @@ module _ (wake : Waker) (s : State) (p : ℕ) (i : ℤ) (bytes : List ℕ) where
   call-decider : checkOperate s p i bytes ≡ 0 → (k : ℕ) → Decides (copiesOf (s .table) c) (operationsOf bytes) k → doOperate wake s p i bytes .answer .position ≡ At k
   unfolding doOperate look
   call-decider z k d =
-      rw z (operated-decider wake s c (look (s .table) c .outcome) (positionOf (look (s .table) c)) (look (s .table) c .copies) (d .stops)
+      rw z (operated-decider wake s c (look (s .table) c .outcome) (deciderOf (look (s .table) c)) (look (s .table) c .copies) (d .stops)
       ∙ decider (copiesOf (s .table) c) (operationsOf bytes) k d)
 
   call-named : CallNamed s p i bytes (doOperate wake s p i bytes .answer)

@@ -19,7 +19,7 @@ use Rattle.model.specs.declared.Engine.the-variants.{Plain, Quick}
 use Rattle.model.specs.Limits.{slots, semaphores, processes}
 use Rattle.model.specs.State.{Table, Sleeper, State}
 use Rattle.model.specs.Operation.{operationsOf, hasBit}
-use Rattle.model.specs.Judge.{positionOf, finishes}
+use Rattle.model.specs.Judge.{deciderOf, finishes}
 use Rattle.model.specs.Look.{look, applied, valuesOf}
 use Rattle.model.specs.Marks.{mine, named, differing}
 use Rattle.model.specs.Waking.{World, Ended, couldFinish, waker}
@@ -121,9 +121,9 @@ operate-agrees s p j bytes i = checked-agrees (checkOperate s p j bytes) s _ _ i
     judged : Judged
     judged = look (s .table) c
 
-    does : Operable s p j bytes → Agrees (operated (waker Quick) s c (judged .outcome) (positionOf judged) (judged .copies)) (operated (waker Plain) s c (judged .outcome) (positionOf judged) (judged .copies))
+    does : Operable s p j bytes → Agrees (operated (waker Quick) s c (judged .outcome) (deciderOf judged) (judged .copies)) (operated (waker Plain) s c (judged .outcome) (deciderOf judged) (judged .copies))
     does o =
-        operated-agrees s c (judged .outcome) (positionOf judged) (judged .copies) i (o .fits) (o .others) (look-fine (s .table) c (i .good) (o .fits))
+        operated-agrees s c (judged .outcome) (deciderOf judged) (judged .copies) i (o .fits) (o .others) (look-fine (s .table) c (i .good) (o .fits))
         (looked-clean (i .counts) (s .table) c (i .good) (o .fits) (i .clean)) refl
 
 -- ---- set value

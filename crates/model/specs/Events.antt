@@ -18,7 +18,7 @@ use Rattle.model.specs.declared.Event as declared
 use Rattle.model.specs.declared.Event.the-variants.{Create, Operate, SetValue, Remove, Signal, Exit, Query}
 use Rattle.model.specs.Limits.{slots, processes, valueMax, allSemaphores}
 use Rattle.model.specs.State.{Table, withValues, withAdjustments, Sleeper, State, row, undoRow, cleared, freeSet, noSet}
-use Rattle.model.specs.Judge.{codeOf, positionOf}
+use Rattle.model.specs.Judge.{codeOf, deciderOf}
 use Rattle.model.specs.Look.{look, applied, valuesOf}
 use Rattle.model.specs.Marks.{mine, differing, maskOf}
 use Rattle.model.specs.Waking.{World, Ended, Waker, waking}
@@ -212,7 +212,7 @@ unfoldable pub doOperate : Waker → State → ℕ → ℤ → List ℕ → Resu
 doOperate wake s p i bytes =
     let c = call p i bytes in
     let j = look (s .table) c in
-    checked (checkOperate s p i bytes) s (operated wake s c (j .outcome) (positionOf j) (j .copies))
+    checked (checkOperate s p i bytes) s (operated wake s c (j .outcome) (deciderOf j) (j .copies))
 
 -- touched is "in set value always the named one"; no other value differs
 unfoldable pub doSetValue : Waker → State → ℤ → ℕ → ℤ → Result

@@ -93,8 +93,8 @@ decidedAt Again i = At i
 decidedAt Range i = At i
 
 -- the operation that judging names
-abbrev pub positionOf : Judged → Position
-positionOf j = decidedAt (j .outcome) (j .position)
+abbrev pub deciderOf : Judged → Position
+deciderOf j = decidedAt (j .outcome) (j .position)
 
 -- "If the outcome is not sleep, the sleeper is finished"
 unfoldable pub finishes : Outcome → Bool

@@ -9,7 +9,7 @@ use Rattle.model.specs.declared.Engine.the-variants.{Plain, Quick}
 use Rattle.model.specs.declared.Position.{Position}
 use Rattle.model.specs.declared.Waking.{Waking}
 use Rattle.model.specs.State.{Table, Sleeper, noSleeper}
-use Rattle.model.specs.Judge.{codeOf, positionOf, finishes}
+use Rattle.model.specs.Judge.{codeOf, deciderOf, finishes}
 use Rattle.model.specs.Look.{look, after, valuesOf}
 use Rattle.model.specs.Marks.{mine, marked, unmark, markTouched, differing}
 
@@ -50,7 +50,7 @@ finish w i =
     record {
       table = after (w .table) s (j .outcome) (j .copies);
       queue = without (w .queue) i;
-      wakings = w .wakings ++ waking (s .process) (codeOf (j .outcome)) (positionOf j) ∷ [];
+      wakings = w .wakings ++ waking (s .process) (codeOf (j .outcome)) (deciderOf j) ∷ [];
     }
 
 -- a round after one sleeper: is it looked at, would it finish, its position, the looks before, the marks before and

@@ -18,7 +18,7 @@ use Rattle.model.specs.declared.Outcome.{Outcome}
 use Rattle.model.specs.declared.Outcome.the-variants.{Done, Sleep, Again, Range}
 use Rattle.model.specs.Limits.{semaphores, processes}
 use Rattle.model.specs.State.{Table, Sleeper, noSleeper, row}
-use Rattle.model.specs.Judge.{codeOf, decidedAt, positionOf}
+use Rattle.model.specs.Judge.{codeOf, decidedAt, deciderOf}
 use Rattle.model.specs.Look.{look, after, applied}
 use Rattle.model.specs.Waking.{World, finish, without, waking}
 use Rattle.model.specs.Invariant.{Fits, Calm, countAt}
@@ -202,12 +202,12 @@ module _ (x : Lent) (r : Ready x) where
       unfolding lentWith finish
       finish-lent y {code} {position} ec ed er ea ew en =
           let l : Judged = look (worldIn x .table) sleeper in
-          let d : position ≡ positionOf l = ed ∙ ap₂ decidedAt (j .outcome) (j .position) in
-          let w : y .wakings ≡ listOf (worldIn x .wakings ++ waking (sleeper .process) (codeOf (l .outcome)) (positionOf l) ∷ []) =
+          let d : position ≡ deciderOf l = ed ∙ ap₂ decidedAt (j .outcome) (j .position) in
+          let w : y .wakings ≡ listOf (worldIn x .wakings ++ waking (sleeper .process) (codeOf (l .outcome)) (deciderOf l) ∷ []) =
           ew ∙ ap₂ (λ (l : List Place) (n : ℕ). set l n (placeOf (waking (getD (x .host .row order) i 0) (pos code) position))) wakings-are woken-is
           ∙ ap₂ (λ (p : ℕ) (z : ℤ). set (listOf (worldIn x .wakings)) (length (worldIn x .wakings)) (placeOf (waking p z position))) the-process (ec ∙ ap codeOf (j .outcome))
           ∙ ap (λ (k : Position). set (listOf (worldIn x .wakings)) (length (worldIn x .wakings)) (placeOf (waking (sleeper .process) (codeOf (l .outcome)) k))) d
-          ∙ noted (worldIn x .wakings) (waking (sleeper .process) (codeOf (l .outcome)) (positionOf l)) (omega (arith, woken-few, woken-is)) in
+          ∙ noted (worldIn x .wakings) (waking (sleeper .process) (codeOf (l .outcome)) (deciderOf l)) (omega (arith, woken-few, woken-is)) in
           let m : y .woken ≡ length (finish (worldIn x) i .wakings) = en ∙ omega (arith, woken-is, finish-wakings (worldIn x) i) in
           let a : y .host .row ≡ withQueue (withTable (x .host .row) (finish (worldIn x) i .table)) (without (worldIn x .queue) i) =
           er ∙ ap (λ (t : Table). withQueue (withTable (x .host .row) t) (without (worldIn x .queue) i)) settled-is in

@@ -18,7 +18,7 @@ use Rattle.model.specs.State.{Table, Sleeper, row}
 use Rattle.model.specs.Look.{look, applied, valuesOf}
 use Rattle.model.specs.Marks.{differing}
 use Rattle.model.specs.Checks.{slotOf, checkOperate}
-use Rattle.model.specs.Judge.{codeOf, decidedAt, positionOf}
+use Rattle.model.specs.Judge.{codeOf, decidedAt, deciderOf}
 use Rattle.model.specs.Waking.{waker}
 use Rattle.model.specs.Events.{Result, refusedAt, call, operated, doOperate}
 use Rattle.model.specs.Runs.{All, none, also}
@@ -76,7 +76,7 @@ module _ (x : Host) (k : Held x) (p : ℕ) (i : ℤ) (bytes : List ℕ) (z : che
 
   module _ (engine : Engine) (o : Outcome) (n : ℕ) (c : Copies) (j : JudgedAs (tableIn x) (call p i bytes) o n c) where
     abbrev told-of : Outcome → Result
-    told-of u = operated (waker engine) (stateIn x) (call p i bytes) u (positionOf (look (tableIn x) (call p i bytes))) (look (tableIn x) (call p i bytes) .copies)
+    told-of u = operated (waker engine) (stateIn x) (call p i bytes) u (deciderOf (look (tableIn x) (call p i bytes))) (look (tableIn x) (call p i bytes) .copies)
 
     -- what the definition says of the outcome
     does : {u : Outcome} → o ≡ u → afterOf (told-of u) ≡ afterOf (doOperate (waker engine) (stateIn x) p i bytes)
@@ -84,7 +84,7 @@ module _ (x : Host) (k : Held x) (p : ℕ) (i : ℤ) (bytes : List ℕ) (z : che
     does {u} e = ap (λ (y : Outcome). afterOf (told-of y)) (sym e ∙ j .outcome) ∙ ap afterOf (goes-on (stateIn x) _ z)
 
     -- the operation that it names is the one that was told
-    named-is : decidedAt o (n % 256) ≡ positionOf (look (tableIn x) (call p i bytes))
+    named-is : decidedAt o (n % 256) ≡ deciderOf (look (tableIn x) (call p i bytes))
     named-is =
         let small : n % 256 ≡ n = omega (arith, j .position, position-small (tableIn x) (call p i bytes) call-fits) in
         ap (decidedAt o) small ∙ ap₂ decidedAt (j .outcome) (j .position)
@@ -142,10 +142,10 @@ module _ (x : Host) (k : Held x) (p : ℕ) (i : ℤ) (bytes : List ℕ) (z : che
     -- ---- refused by judging
 
     judged-after : (code : ℕ) {l : List Place} {told : Told} → l ≡ listOf [] → told ≡ tellingAt (pos code) (decidedAt o (n % 256)) 0 0 0
-        → record { host = x; wakings = l; told = told } ≡ afterOf (refusedAt (stateIn x) code (positionOf (look (tableIn x) (call p i bytes))))
+        → record { host = x; wakings = l; told = told } ≡ afterOf (refusedAt (stateIn x) code (deciderOf (look (tableIn x) (call p i bytes))))
     judged-after code el et =
         ap₂ (λ (l : List Place) (u : Told). record { host = x; wakings = l; told = u }) el (et ∙ ap (λ (d : Position). tellingAt (pos code) d 0 0 0) named-is)
-        ∙ ap (λ (y : Host). record { host = y; wakings = listOf []; told = tellingAt (pos code) (positionOf (look (tableIn x) (call p i bytes))) 0 0 0 }) (k .holds)
+        ∙ ap (λ (y : Host). record { host = y; wakings = listOf []; told = tellingAt (pos code) (deciderOf (look (tableIn x) (call p i bytes))) 0 0 0 }) (k .holds)
 
     pub again-after : {l : List Place} {told : Told} → o ≡ Again → l ≡ listOf [] → told ≡ tellingAt (pos 11) (decidedAt o (n % 256)) 0 0 0
         → record { host = x; wakings = l; told = told } ≡ afterOf (doOperate (waker engine) (stateIn x) p i bytes)
