@@ -25,12 +25,12 @@ enum {
     VAIROLENT_SETS = 4,            /* slots for sets, numbered 0 to 3 */
     VAIROLENT_SEMAPHORES = 8,      /* a set has 1 to 8 semaphores */
     VAIROLENT_PROCESSES = 8,       /* processes are numbered 1 to 8 */
-    VAIROLENT_OPERATIONS = 8,      /* 1 to 8 operations in one call */
+    VAIROLENT_OPERATIONS = 32,     /* 1 to 32 operations in one call */
     VAIROLENT_VALUE_MAX = 32767,   /* a value is 0 to 32,767, an undo adjustment -32,767 to 32,767 */
     VAIROLENT_ALL = 255,           /* the mask of all processes: process p has bit p-1 */
     VAIROLENT_ASLEEP = -1,         /* the code of a call that sleeps; its position names the operation that stopped */
     VAIROLENT_OPERATION_BYTES = 6, /* an operation: the bytes of a struct sembuf */
-    VAIROLENT_ROW_BYTES = 533,     /* the bytes of a host's row */
+    VAIROLENT_ROW_BYTES = 1685,    /* the bytes of a host's row */
     VAIROLENT_ADJUSTMENTS = 256    /* the undo adjustments of a host */
 };
 
@@ -40,7 +40,7 @@ enum {
  * the ERANGE of a set value included. */
 struct vairolent_position {
     bool there;
-    uint8_t at; /* 0 to 7; 0 if there is none */
+    uint8_t at; /* 0 to 31; 0 if there is none */
 };
 
 /* A sleeper that an event ended, and with which code: 0 its array was done; EAGAIN, an operation that has to sleep
@@ -153,7 +153,7 @@ static inline struct vairolent_told vairolent_create(struct vairolent_host *host
  * done, the process becomes the last of every semaphore that the array names, amounts of 0 included, and sleepers are
  * woken. The archive's function takes the bytes of the operations, six for each.
  * Refused, the first that applies: ESRCH process not 1 to 8; EBUSY it is asleep; EINVAL no operations, or bytes not a
- * multiple of 6; E2BIG over 8 operations; EINVAL no such set; EFBIG a number at or above the set's count; EACCES not
+ * multiple of 6; E2BIG over 32 operations; EINVAL no such set; EFBIG a number at or above the set's count; EACCES not
  * permitted; then as the deciding operation has it, with its position: EAGAIN it stops and has IPC_NOWAIT; ERANGE it
  * would take its value, or with SEM_UNDO the adjustment, out of its range. */
 struct vairolent_told vairolent_operate_in(uint8_t *row, int16_t *adjustments, struct vairolent_waking *wakings,

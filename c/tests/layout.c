@@ -343,12 +343,51 @@ static void edges(void)
     want("an operation too many", vairolent_operate(&host, 1, 0, none, VAIROLENT_OPERATIONS + 1).code, E2BIG);
     want("more than memory holds", vairolent_operate(&host, 1, 0, none, SIZE_MAX / 3).code, E2BIG);
     want("no operations", vairolent_operate(&host, 1, 0, NULL, 0).code, EINVAL);
-    struct vairolent_told half =
-        vairolent_operate_in(host.row, host.adjustments, host.wakings, 1, 0, (const uint8_t *)none, 9);
-    want("one operation and a half", half.code, EINVAL);
     want("the largest value", vairolent_set_value(&host, 0, 0, VAIROLENT_VALUE_MAX).code, 0);
     want("a value too large", vairolent_set_value(&host, 0, 0, VAIROLENT_VALUE_MAX + 1).code, ERANGE);
     want("over the largest value", operate(1, 0, 0, 1, 0).code, ERANGE);
+}
+
+/* An array by its bytes: none, and those that are no whole operations, 199 of them too, are EINVAL before too many are
+ * E2BIG. All of them are zeros, so that what is judged goes through. */
+static void whole_operations(void)
+{
+    enum { MOST = 255 * VAIROLENT_OPERATION_BYTES };
+    static const uint8_t zeros[MOST];
+    host = vairolent_fresh();
+    vairolent_create(&host, 1, VAIROLENT_ALL, VAIROLENT_ALL);
+    for (size_t bytes = 0; bytes <= MOST; bytes++) {
+        size_t whole = bytes / VAIROLENT_OPERATION_BYTES;
+        int32_t wanted = whole <= VAIROLENT_OPERATIONS ? 0 : E2BIG;
+        if (bytes == 0 || bytes % VAIROLENT_OPERATION_BYTES != 0)
+            wanted = EINVAL;
+        struct vairolent_told told =
+            vairolent_operate_in(host.row, host.adjustments, host.wakings, 1, 0, zeros, bytes);
+        told_is("so many bytes", told, wanted, NONE);
+    }
+    want("199 bytes",
+         vairolent_operate_in(host.row, host.adjustments, host.wakings, 1, 0, zeros, 199).code, EINVAL);
+}
+
+/* Sleepers with as many operations as there can be: one is woken, and one is ended with ERANGE at its last. */
+static void longest_sleepers(void)
+{
+    enum { LAST = VAIROLENT_OPERATIONS - 1 };
+    struct sembuf takes[VAIROLENT_OPERATIONS], overflows[VAIROLENT_OPERATIONS];
+    for (int i = 0; i <= LAST; i++)
+        takes[i] = overflows[i] = (struct sembuf)OPERATION(0, 1, 0);
+    takes[LAST] = (struct sembuf)OPERATION(1, -1, 0);
+    overflows[0] = (struct sembuf)OPERATION(1, -2, 0);
+    overflows[LAST] = (struct sembuf)OPERATION(0, 32767, 0);
+    host = vairolent_fresh();
+    vairolent_create(&host, 2, VAIROLENT_ALL, VAIROLENT_ALL);
+    told_is("asleep at its last", vairolent_operate(&host, 1, 0, COUNTED(takes)), VAIROLENT_ASLEEP, LAST);
+    told_is("asleep at its first", vairolent_operate(&host, 2, 0, COUNTED(overflows)), VAIROLENT_ASLEEP, 0);
+    told_is("both can go on", vairolent_set_value(&host, 0, 1, 3), 0, NONE);
+    waking_is("woken", 0, 1, 0, NONE);
+    waking_is("ended at its last", 1, 2, ERANGE, LAST);
+    want("what the woken one added", vairolent_query(&host, 0, 0).value, LAST);
+    want("what it took, and the other did not", vairolent_query(&host, 0, 1).value, 2);
 }
 
 /* Which argument is which: a set that process 1 may read and process 2 alter, and an undo. */
@@ -418,6 +457,8 @@ int main(void)
     offsets_queried();
     offsets_queried_set();
     edges();
+    whole_operations();
+    longest_sleepers();
     arguments();
     widths();
     codes();

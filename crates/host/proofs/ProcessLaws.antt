@@ -184,9 +184,11 @@ module _ {A : Type 0} where
       store-filled : take w (x ++ replicate w z) ≡ paste (take w (replicate w z)) 0 x (length x)
       store-filled = rw (zeros-left, zero-add, take-all w (replicate w z) (omega (arith, length-replicate w z)), zeros-from, take-length)
 
-    -- zeros over all of it
-    clear-filled : take w (replicate w z) ≡ paste (take w (x ++ replicate w z)) 0 (replicate w z) w
-    clear-filled = rw (zero-add, drop-of-length-le (take w (x ++ replicate w z)) {i = w} (omega (arith, length-filled)), append-nil)
+      -- zeros over x
+      clear-filled : take w (replicate w z) ≡ paste (take w (x ++ replicate w z)) 0 (replicate (length x) z) (length x)
+      clear-filled =
+          rw (zeros-left, zero-add, take-all w (replicate w z) (omega (arith, length-replicate w z)), take-all (length x) (replicate (length x) z) (omega (arith, length-replicate (length x) z)), drop-at x (replicate (w - length x) z) (length x) refl)
+          (sym both)
 
 -- ---- the bytes of all arrays
 
@@ -218,11 +220,11 @@ module _ (q : List Sleeper) (p : ℕ) (some : 1 ≤ p) (few : p ≤ processes) w
       (λ j n. ap (λ (a : List ℕ). take arrayBytes (a ++ replicate arrayBytes 0)) (o j (λ (z : j ≡ p). n (z ∙ sym counted))))
       ∙ sym (as-blocks processes 1 r)
 
-  pub arrays-cleared : (r : List Sleeper) → arrayOf p r ≡ [] → ((j : ℕ) → j ≢ p → arrayOf j q ≡ arrayOf j r)
-      → paste (blocksFrom processes 1 q) (arrayBytes * (p - 1)) (replicate arrayBytes 0) arrayBytes ≡ blocksFrom processes 1 r
-  arrays-cleared r e o =
-      changed r (replicate arrayBytes 0) arrayBytes (omega arith)
-      (ap (λ (a : List ℕ). take arrayBytes (a ++ replicate arrayBytes 0)) e ∙ clear-filled arrayBytes 0 (arrayOf p q)) o
+  pub arrays-cleared : (r : List Sleeper) → arrayOf p r ≡ [] → length (arrayOf p q) ≤ arrayBytes → ((j : ℕ) → j ≢ p → arrayOf j q ≡ arrayOf j r)
+      → paste (blocksFrom processes 1 q) (arrayBytes * (p - 1)) (replicate (length (arrayOf p q)) 0) (length (arrayOf p q)) ≡ blocksFrom processes 1 r
+  arrays-cleared r e h o =
+      changed r (replicate (length (arrayOf p q)) 0) (length (arrayOf p q)) h
+      (ap (λ (a : List ℕ). take arrayBytes (a ++ replicate arrayBytes 0)) e ∙ clear-filled arrayBytes 0 (arrayOf p q) h) o
 
   pub arrays-stored : (r : List Sleeper) → arrayOf p q ≡ [] → length (arrayOf p r) ≤ arrayBytes → ((j : ℕ) → j ≢ p → arrayOf j q ≡ arrayOf j r)
       → paste (blocksFrom processes 1 q) (arrayBytes * (p - 1)) (arrayOf p r) (length (arrayOf p r)) ≡ blocksFrom processes 1 r

@@ -163,19 +163,23 @@ module _ (q : List Sleeper) (f : Queued q) (i : ℕ) (h : i < length q) where
       rw (entry-is (sleeper .process) (room-at .process))
       (by-changed g q (sleeper .process) (room-at .process) (room-at .last) 0 (without q i) (of-none 0 g (sleeper .process) (without q i) others) (λ j n. sym (of-without 0 g j q i n)))
 
-  arrays-out : sets (blocksFrom processes 1 q) (arrayBytes * entry (getD q i noSleeper .process)) (replicate arrayBytes 0) ≡ blocksFrom processes 1 (without q i)
-  arrays-out =
+  arrays-out : {n : ℕ} → n ≡ length (getD q i noSleeper .array)
+      → sets (blocksFrom processes 1 q) (arrayBytes * entry (getD q i noSleeper .process)) (replicate n 0) ≡ blocksFrom processes 1 (without q i)
+  arrays-out {n} e =
       let p = sleeper .process in
-      let fits : arrayBytes * (p - 1) + arrayBytes ≤ length (blocksFrom processes 1 q) = omega (arith, length-arrays q, room-at .process, room-at .last) in
+      let own : n ≡ length (arrayOf p q) = e ∙ ap length (sym array-own) in
+      let short : n ≤ arrayBytes = rw e (room-at .short) in
+      let fits : arrayBytes * (p - 1) + n ≤ length (blocksFrom processes 1 q) = omega (arith, length-arrays q, room-at .process, room-at .last, short) in
       rw (entry-is p (room-at .process))
-      (sets-paste (replicate arrayBytes 0) (blocksFrom processes 1 q) (arrayBytes * (p - 1)) arrayBytes (length-replicate {A = ℕ} arrayBytes 0) fits
-      ∙ (arrays-cleared q p (room-at .process) (room-at .last) (without q i) (of-none [] (λ (s : Sleeper). s .array) p (without q i) others) (λ j m. sym (of-without [] (λ (s : Sleeper). s .array) j q i m))))
+      (sets-paste (replicate n 0) (blocksFrom processes 1 q) (arrayBytes * (p - 1)) n (length-replicate {A = ℕ} n 0) fits
+      ∙ ap (λ (m : ℕ). paste (blocksFrom processes 1 q) (arrayBytes * (p - 1)) (replicate m 0) m) own
+      ∙ (arrays-cleared q p (room-at .process) (room-at .last) (without q i) (of-none [] (λ (s : Sleeper). s .array) p (without q i) others) (rw (← own) short) (λ j m. sym (of-without [] (λ (s : Sleeper). s .array) j q i m))))
 
   -- the writes that take it out
   abbrev pub emptied : Row → Row
   emptied r =
       let p = getD q i noSleeper .process in
-      put (with (withEntry kept p (λ (k : Kept). 0) (with r arrays (sets (r arrays) (arrayBytes * entry p) (replicate arrayBytes 0)))) order (without (r order) i ++ 0 ∷ [])) asleep 0 (length q - 1)
+      put (with (withEntry kept p (λ (k : Kept). 0) (with r arrays (sets (r arrays) (arrayBytes * entry p) (replicate (length (arrayIn r p)) 0)))) order (without (r order) i ++ 0 ∷ [])) asleep 0 (length q - 1)
 
   pub taken : (r : Row) → emptied (withQueue r q) ≡ withQueue r (without q i)
   taken r =
@@ -184,7 +188,7 @@ module _ (q : List Sleeper) (f : Queued q) (i : ℕ) (h : i < length q) where
       (ap (λ (n : ℕ). n ∷ []) (omega (arith, length-without q i h)))
       (order-without q i h (f .few))
       (map-each kept (λ k. by-out (k .of)))
-      arrays-out)
+      (arrays-out (ap length (array-read-back r))))
 
 -- ---- one that joins
 

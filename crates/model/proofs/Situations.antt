@@ -11,7 +11,7 @@ use Rattle.model.specs.Checks.{identifierOf, slotOf, namesSet, noProcess
 use Rattle.model.specs.State.{clearRows, cleared}
 use Rattle.model.specs.Events.{clearNumber, assigned, cut, undoAll, exited, keep, endedWith, doCreate, operated, doOperate, doSetValue, doRemove, treat, treatFrom, touchedFrom, doExit, seenAt, doQuery, event}
 use Rattle.model.specs.Runs.{run, All, none, also}
-use Rattle.model.specs.Situations.{Situation, Shows, Holds, situation1, situation2, situation3, situation4, situation5, situation6, situation7, situation8, situation9, situation10, situation11, situation12, situation12b, situation13, situation14, situation15, situation16, situation17, table}
+use Rattle.model.specs.Situations.{Situation, Shows, Holds, situation1, situation2, situation3, situation4, situation5, situation6, situation7, situation8, situation9, situation10, situation11, situation12, situation12b, situation13, situation14, situation15, situation16, situation17, situation18, table}
 
 both : (r : Situation) → Shows Plain r → Shows Quick r → Holds r
 both r p q Plain = p
@@ -38,4 +38,5 @@ situations =
     (also (both situation15 refl refl)
     (also (both situation16 refl refl)
     (also (both situation17 refl refl)
-    none)))))))))))))))))
+    (also (both situation18 refl refl)
+    none))))))))))))))))))

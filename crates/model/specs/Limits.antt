@@ -13,7 +13,7 @@ processes = 8
 
 -- operations in one call
 abbrev pub operations : ℕ
-operations = 8
+operations = 32
 
 -- SEMVMX, and the bound of an undo adjustment either way
 abbrev pub valueMax : ℕ

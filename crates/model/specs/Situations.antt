@@ -1,6 +1,6 @@
 -- "Situations on the reviewer's desk", and from 14 on those that show rules of document 02: a table of events and of what each
 -- must show. proofs/Situations.antt proves every row.
-use Prim.Native.Nat.{ℕ, _+_, _-_, _/_, _%_}
+use Prim.Native.Nat.{ℕ, zero, suc, _+_, _-_, _/_, _%_}
 use mathlib.Core.Path.{_≡_}
 use mathlib.Core.List.{List, [], _∷_, _++_, map}
 use lib.ListN.{replicate}
@@ -27,6 +27,11 @@ bytes2 n = n % 256 ∷ n / 256 ∷ []
 -- the six bytes of an operation: number, amount, flags
 abbrev op : ℕ → ℤ → ℕ → List ℕ
 op number amount flags = bytes2 number ++ bytes2 (bits16 amount) ++ bytes2 flags
+
+-- .. so many times
+abbrev times : ℕ → List ℕ → List ℕ
+times zero o = []
+times (suc n) o = o ++ times n o
 
 abbrev none : ℕ
 none = 0
@@ -260,16 +265,15 @@ situation12b =
       steps = gives (remove (pos 262140)) done ∷ tells (create 1 255 255) 0 ∷ [];
     }
 
--- 13: eight operations are judged, nine are 7; number 7 in a set of 8 is judged, 8 is 27.
-abbrev four : List ℕ
-four = op 7 (pos 1) none ++ op 7 (pos 1) none ++ op 7 (pos 1) none ++ op 7 (pos 1) none
-
+-- 13: thirty-two operations are judged, thirty-three are 7, and 199 bytes, which are not whole, 22; number 7 in a set of 8 is
+-- judged, 8 is 27.
 abbrev pub situation13 : Situation
 situation13 =
     fresh 8
-    (gives (operate 1 set0 (four ++ four)) done
-    ∷ sees (query set0 7) 8 1
-    ∷ gives (operate 1 set0 (four ++ four ++ op 7 (pos 1) none)) (pos 7)
+    (gives (operate 1 set0 (times 32 (op 7 (pos 1) none))) done
+    ∷ sees (query set0 7) 32 1
+    ∷ gives (operate 1 set0 (times 33 (op 7 (pos 1) none))) (pos 7)
+    ∷ gives (operate 1 set0 (times 33 (op 7 (pos 1) none) ++ 0 ∷ [])) (pos 22)
     ∷ gives (operate 1 set0 (op 8 (pos 1) none)) (pos 27)
     ∷ [])
 
@@ -326,6 +330,18 @@ situation17 =
     ∷ sees (query set0 1) 1 0
     ∷ [])
 
+-- 18: a call may sleep on thirty-two operations. Process 1 on (0,+1) thirty-one times and (1,-1): asleep at 31. Process 2 on
+-- (1,-2), (0,+1) thirty times and (0,+32,767): asleep at 0. When 1 comes to 3, process 1 is woken, and 2 with 34 at 31.
+abbrev pub situation18 : Situation
+situation18 =
+    fresh 2
+    (stops (operate 1 set0 (times 31 (op 0 (pos 1) none) ++ op 1 (minus 1) none)) asleep 31
+    ∷ stops (operate 2 set0 (op 1 (minus 2) none ++ times 30 (op 0 (pos 1) none) ++ op 0 (pos 32767) none)) asleep 0
+    ∷ wakes (setValue set0 1 (pos 3)) 2 2 (woken 1 (pos 0) ∷ ended 2 (pos 34) 31 ∷ [])
+    ∷ sees (query set0 0) 31 1
+    ∷ sees (query set0 1) 2 1
+    ∷ [])
+
 abbrev pub table : List Situation
 table =
     situation1
@@ -346,4 +362,5 @@ table =
     ∷ situation15
     ∷ situation16
     ∷ situation17
+    ∷ situation18
     ∷ []

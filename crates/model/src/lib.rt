@@ -11,7 +11,7 @@ pub const SEMAPHORES: usize = 8;
 
 pub const PROCESSES: usize = 8;
 
-pub const OPERATIONS: usize = 8;
+pub const OPERATIONS: usize = 32;
 
 pub const VALUE_MAX: u16 = 32767;
 

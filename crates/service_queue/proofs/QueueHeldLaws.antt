@@ -8,7 +8,7 @@ use Rattle.model.specs.Limits.{processes, arrayBytes}
 use Rattle.model.specs.State.{Sleeper, noSleeper}
 use Rattle.model.specs.Waking.{without}
 use Rattle.host.specs.Parts.{Part, asleep, order, sleepsAt, arrays, Row, with, put}
-use Rattle.host.specs.Holding.{Kept, kept, withQueue, entry, queueIn}
+use Rattle.host.specs.Holding.{Kept, kept, withQueue, entry, arrayIn, queueIn}
 use Rattle.host.specs.Queue.{Room, Queued, QueueHeld}
 use Rattle.host.proofs.PartLaws.{by-groups}
 use Rattle.host.proofs.ProcessLaws.{Awake}
@@ -55,13 +55,13 @@ module _ {r : Row} (k : QueueHeld r) where
 -- ---- one is taken out: what its process has is cleared, and the order moves up
 
 abbrev clearedOf : ℕ → Row → Row
-clearedOf p r = withEntry kept p (λ (k : Kept). 0) (with r arrays (sets (r arrays) (arrayBytes * entry p) (replicate arrayBytes 0)))
+clearedOf p r = withEntry kept p (λ (k : Kept). 0) (with r arrays (sets (r arrays) (arrayBytes * entry p) (replicate (length (arrayIn r p)) 0)))
 
 abbrev shortened : ℕ → ℕ → Row → Row
 shortened at last r = put (with r order (movedUp (r order) at last)) asleep 0 last
 
 module _ {r r₁ r₂ : Row} {p : ℕ} (k : QueueHeld r) (at : ℕ) (h : at < length (queueIn r)) (ep : p ≡ getD (r order) at 0)
-    (e₁ : r₁ ≡ with r arrays (sets (r arrays) (arrayBytes * entry p) (replicate arrayBytes 0))) (e₂ : r₂ ≡ withEntry kept p (λ (k : Kept). 0) r₁) where
+    (e₁ : r₁ ≡ with r arrays (sets (r arrays) (arrayBytes * entry p) (replicate (length (arrayIn r p)) 0))) (e₂ : r₂ ≡ withEntry kept p (λ (k : Kept). 0) r₁) where
   cleared : r₂ ≡ clearedOf p r
   cleared = e₂ ∙ ap (withEntry kept p (λ (k : Kept). 0)) e₁
 

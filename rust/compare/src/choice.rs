@@ -64,7 +64,7 @@ fn operations(rng: &mut Rng, target: &Target, most: usize) -> Vec<Operation> {
     (0..rng.below(most + 1)).map(|_| operation(rng, target)).collect()
 }
 
-/// An operate of one to eight operations by a process awake.
+/// An operate of a few operations by a process awake.
 pub fn operate(scene: &mut Scene) -> Body {
     let target = scene.target();
     let caller = if scene.rng.once_in(30) { scene.process() } else { scene.caller() };
@@ -164,7 +164,7 @@ pub fn refusal(scene: &mut Scene) -> Body {
     let rng = &mut scene.rng;
     let outside = rng.pick(&[0, 9, 10, 128, 255]);
     let beyond = target.values.len() as u16 + rng.pick(&[0, 0, 1, 8, 248, 256, 65_000]);
-    let too_many = vec![operation(rng, &target); rng.pick(&[9, 9, 10, 64])];
+    let too_many = vec![operation(rng, &target); rng.pick(&[33, 33, 34, 64])];
     let mut array = operations(rng, &target, 7);
     match rng.below(17) {
         0 => event::create(rng.pick(&[0, 9, 255]), 0xFF, 0xFF),
@@ -212,7 +212,7 @@ pub fn stale(scene: &mut Scene) -> i32 {
 /// one.
 pub fn random(scene: &mut Scene) -> Body {
     let rng = &mut scene.rng;
-    let (kind, operations) = (rng.pick(&EVENTS), rng.pick(&[0, 1, 2, 3, 4, 7, 8, 9]));
+    let (kind, operations) = (rng.pick(&EVENTS), rng.pick(&[0, 1, 2, 3, 8, 32, 33, 255]));
     let mask = if rng.once_in(2) { 3 } else { u64::MAX };
     (kind.drawn)(&mut || rng.next() & mask, operations)
 }

@@ -1,12 +1,15 @@
-//! Arrays that any of eight operations decides: by a look, before, at or behind the operation where
+//! Arrays that any of their operations decides: by a look, before, at or behind the operation where
 //! the call went to sleep, and then at once.
 
 use second::event::{self, Operation};
-use second::{NOWAIT, UNDO};
+use second::{NOWAIT, OPERATIONS, UNDO};
 
 use crate::choice::{narrow, MAX};
 use crate::random::Rng;
 use crate::scene::Scene;
+
+/// The position of the last operation that an array can have.
+const LAST: usize = OPERATIONS - 1;
 
 /// A call that sleeps, and the change of a value that ends it.
 struct Plan {
@@ -60,20 +63,20 @@ fn plan(rng: &mut Rng, numbers: &[u16]) -> Plan {
     let waits = (b, -1, 0);
     match rng.below(3) {
         0 => {
-            let at = rng.below(7);
-            let array = placed(idle, &[(at, fails), (at + 1 + rng.below(7 - at), waits)]);
+            let at = rng.below(LAST);
+            let array = placed(idle, &[(at, fails), (at + 1 + rng.below(LAST - at), waits)]);
             let values = vec![(a, good), (b, 0)];
             Plan { values, taken: 0, array, number: a, from: good, to: bad }
         }
         1 => {
-            let at = 1 + rng.below(7);
+            let at = 1 + rng.below(LAST);
             let array = placed(idle, &[(rng.below(at), waits), (at, fails)]);
             let values = vec![(a, bad), (b, 0)];
             Plan { values, taken: 0, array, number: b, from: 0, to: 1 }
         }
         // The sleeper holds all that an adjustment can be, and takes more.
         _ => {
-            let array = placed(idle, &[(rng.below(8), (a, narrow(-step), UNDO))]);
+            let array = placed(idle, &[(rng.below(LAST + 1), (a, narrow(-step), UNDO))]);
             Plan { values: vec![(a, MAX)], taken: MAX, array, number: a, from: 0, to: step }
         }
     }

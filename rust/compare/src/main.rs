@@ -11,6 +11,7 @@ mod events;
 mod faults;
 mod kind;
 mod line;
+mod long;
 mod medley;
 mod options;
 mod positions;

@@ -3,12 +3,13 @@
 use crate::deciding;
 use crate::kind::Kind;
 use crate::kind::Make::Script;
+use crate::long;
 use crate::scene::Scene;
 use crate::script;
 
 pub static MEDLEY: Kind = Kind::new("medley", Script(play), "episodes of all the scripts below");
 
-pub static SCRIPTS: [Kind; 15] = [
+pub static SCRIPTS: [Kind; 16] = [
     Kind::new("mixed", Script(script::mixed), "everyday traffic"),
     Kind::new("dense", Script(script::dense), "seven and eight asleep, and what wakes them"),
     Kind::new("chains", Script(script::chain), "wake chains as in situation 11"),
@@ -24,6 +25,7 @@ pub static SCRIPTS: [Kind; 15] = [
     Kind::new("seven", Script(script::seven_asleep), "seven processes asleep all along"),
     Kind::new("random", Script(script::random), "good bodies, not steered"),
     Kind::new("deciding", Script(deciding::deciding), "arrays that any operation decides"),
+    Kind::new("long", Script(long::long), "arrays of twenty to thirty-two operations"),
 ];
 
 /// Draws of a script; those beyond the last play nothing. With another number of them a seed would

@@ -4,7 +4,7 @@ use std::cmp::Ordering;
 use std::ops::RangeInclusive;
 
 use second::event::OPERATION;
-use second::Event;
+use second::{Event, OPERATIONS};
 
 use crate::line::{Code, Line};
 
@@ -22,17 +22,20 @@ pub enum Decision {
     Behind,
 }
 
+/// The position of the last operation that an array can have.
+const LAST: u8 = OPERATIONS as u8 - 1;
+
 /// All of them, with their names and the positions that have to come.
 pub const DECISIONS: [(Decision, &str, RangeInclusive<u8>); 9] = [
-    (Decision::Operate(-1), "operate: -1 at", 0..=7),
-    (Decision::Operate(11), "operate: 11 at", 0..=7),
-    (Decision::Operate(34), "operate: 34 at", 0..=7),
-    (Decision::Waking(11), "waking: 11 at", 0..=7),
-    (Decision::Waking(34), "waking: 34 at", 0..=7),
-    (Decision::Adjustment, "adjustment: 34 at", 0..=7),
-    (Decision::Before, "before its stop, at", 0..=6),
-    (Decision::There, "at its own stop, at", 0..=7),
-    (Decision::Behind, "behind its stop, at", 1..=7),
+    (Decision::Operate(-1), "operate: -1 at", 0..=LAST),
+    (Decision::Operate(11), "operate: 11 at", 0..=LAST),
+    (Decision::Operate(34), "operate: 34 at", 0..=LAST),
+    (Decision::Waking(11), "waking: 11 at", 0..=LAST),
+    (Decision::Waking(34), "waking: 34 at", 0..=LAST),
+    (Decision::Adjustment, "adjustment: 34 at", 0..=LAST),
+    (Decision::Before, "before its stop, at", 0..=LAST - 1),
+    (Decision::There, "at its own stop, at", 0..=LAST),
+    (Decision::Behind, "behind its stop, at", 1..=LAST),
 ];
 
 #[derive(Default)]

@@ -61,7 +61,7 @@ fn kinds_and_lengths() -> Vec<Body> {
             bodies.push(body);
         }
     }
-    for number in (0..11_usize).chain([254, 255]) {
+    for number in (0..11_usize).chain([31, 32, 33, 34, 254, 255]) {
         for present in [number, 0, number + 1, number.saturating_sub(1), 256] {
             let mut body = operate(1, 0, &vec![(0, 1, 0); present]);
             body[6] = number as u8;

@@ -4,9 +4,8 @@ use crate::answer::{Answer, Report, SetState, State, ASLEEP};
 use crate::errno::Errno;
 use crate::event::Event;
 use crate::host::{identifier, Host, SLOTS};
-use crate::judge::{Array, Outcome, SEMAPHORES, VALUE_MAX};
+use crate::judge::{Outcome, SEMAPHORES, VALUE_MAX};
 use crate::process::Process;
-use crate::queue::Sleeper;
 use crate::set::Set;
 
 impl Host {
@@ -43,17 +42,18 @@ impl Host {
         if self.queue.asleep() & process.bit() != 0 {
             return Err(Errno::Ebusy);
         }
-        let array = Array::read(bytes)?;
+        self.queue.read(process, bytes)?;
         let slot = self.find(identifier)?;
-        self.sets[slot].admit(process, &array)?;
-        let (outcome, touched) = self.sets[slot].perform(process, &array);
+        let array = &self.queue.call(process).array;
+        self.sets[slot].admit(process, array)?;
+        let (outcome, touched) = self.sets[slot].perform(process, array);
         match outcome {
             Outcome::Refused(errno, position) => {
                 Ok(Report::decided_at(position, errno.number().into()))
             }
             Outcome::Sleep(position) => {
                 let names = array.names();
-                self.queue.push(process, Sleeper { slot, array, names });
+                self.queue.push(process, slot, names);
                 Ok(Report::decided_at(position, ASLEEP))
             }
             Outcome::Done => Ok(self.treated(slot, touched)),

@@ -7,7 +7,7 @@ use crate::position::Position;
 /// Semaphores in a set, at most.
 pub const SEMAPHORES: usize = 8;
 /// Operations in one call, at most.
-pub const OPERATIONS: usize = 8;
+pub const OPERATIONS: usize = 32;
 /// The largest value of a semaphore (SEMVMX), and the largest magnitude of an adjustment.
 pub const VALUE_MAX: i32 = 32_767;
 pub const ADJUSTMENT_MAX: i32 = 32_767;
@@ -23,7 +23,7 @@ pub struct Operation {
     pub flags: u16,
 }
 
-/// The one to eight operations of a call.
+/// The operations of a call.
 #[derive(Clone, Copy, Debug, Default)]
 pub struct Array {
     operations: [Operation; OPERATIONS],
@@ -58,8 +58,9 @@ impl Operation {
 }
 
 impl Array {
-    /// Reads one to eight operations of six bytes.
-    pub fn read(bytes: &[u8]) -> Result<Array, Errno> {
+    /// Reads operations of six bytes, at least one and at most `OPERATIONS`, over those that were
+    /// here.
+    pub fn read(&mut self, bytes: &[u8]) -> Result<(), Errno> {
         if bytes.is_empty() || bytes.len() % OPERATION != 0 {
             return Err(Errno::Einval);
         }
@@ -67,11 +68,11 @@ impl Array {
         if length > OPERATIONS {
             return Err(Errno::E2big);
         }
-        let mut operations = [Operation::default(); OPERATIONS];
-        for (operation, six) in operations.iter_mut().zip(bytes.chunks_exact(OPERATION)) {
+        for (operation, six) in self.operations.iter_mut().zip(bytes.chunks_exact(OPERATION)) {
             *operation = Operation::read(six);
         }
-        Ok(Array { operations, length })
+        self.length = length;
+        Ok(())
     }
 
     pub fn operations(&self) -> &[Operation] {

@@ -25,7 +25,7 @@ pub use bad::Bad;
 pub use errno::Errno;
 pub use event::Event;
 pub use host::{Host, Rule};
-pub use judge::{IPC_NOWAIT as NOWAIT, SEM_UNDO as UNDO};
+pub use judge::{IPC_NOWAIT as NOWAIT, OPERATIONS, SEM_UNDO as UNDO};
 pub use position::Position;
 pub use runfile::{run_file, RunFile, ENTRY, FILE_MAX, HEAD};
 pub use set::Set;

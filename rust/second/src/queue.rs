@@ -1,9 +1,10 @@
 //! The sleeping calls of all sets, oldest first.
 
+use crate::errno::Errno;
 use crate::judge::Array;
 use crate::process::{Process, PROCESSES};
 
-/// A call that sleeps.
+/// A call, and what it sleeps with.
 #[derive(Clone, Copy, Debug, Default)]
 pub struct Sleeper {
     /// The slot of its set.
@@ -19,7 +20,7 @@ pub struct Queue {
     order: Vec<Process>,
     /// The same as a mask.
     asleep: u8,
-    /// Each process's call; it counts only while the process is asleep.
+    /// Each process's last call; it sleeps on it only while it is in the order.
     calls: [Sleeper; PROCESSES],
 }
 
@@ -37,10 +38,18 @@ impl Queue {
         self.asleep
     }
 
-    pub fn push(&mut self, process: Process, sleeper: Sleeper) {
+    /// Reads the operations of a call by a process that is awake.
+    pub fn read(&mut self, process: Process, bytes: &[u8]) -> Result<(), Errno> {
+        self.calls[process.index()].array.read(bytes)
+    }
+
+    /// The process sleeps on its last call, at the set in this slot.
+    pub fn push(&mut self, process: Process, slot: usize, names: u8) {
         self.order.push(process);
         self.asleep |= process.bit();
-        self.calls[process.index()] = sleeper;
+        let call = &mut self.calls[process.index()];
+        call.slot = slot;
+        call.names = names;
     }
 
     /// Takes the process out; says whether it was asleep.

@@ -9,7 +9,7 @@ use std::mem::size_of;
 use crate::limits::{OPERATIONS, PROCESSES, SEMAPHORES, SETS, VALUE_MAX};
 
 /// All that a host holds but the adjustments.
-pub type Row = [u8; 533];
+pub type Row = [u8; 1_685];
 
 /// The undo adjustments, of each process for each semaphore.
 pub type Adjustments = [i16; PROCESSES * SETS * SEMAPHORES];

@@ -43,7 +43,7 @@ coded! {
         /// or over 8; an operate has no operations; the semaphore number of a set value or a query
         /// is at or above the set's count.
         Invalid = EINVAL,
-        /// E2BIG: over 8 operations.
+        /// E2BIG: over 32 operations.
         TooManyOperations = E2BIG,
         /// EFBIG: the semaphore number of an operation is at or above the set's count.
         NoSemaphore = EFBIG,

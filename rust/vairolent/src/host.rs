@@ -135,7 +135,7 @@ impl Host {
     /// - [`Error::NoProcess`]: the process is not 1 to 8.
     /// - [`Error::ProcessAsleep`]: the process is asleep.
     /// - [`Error::Invalid`]: there are no operations.
-    /// - [`Error::TooManyOperations`]: there are over 8 operations.
+    /// - [`Error::TooManyOperations`]: there are over 32 operations.
     /// - [`Error::Invalid`]: the identifier names no live set.
     /// - [`Error::NoSemaphore`]: a semaphore number is at or above the set's count.
     /// - [`Error::NotPermitted`]: the process has no alter bit and an amount is not zero, or it has

@@ -10,7 +10,7 @@ pub const SEMAPHORES: usize = 8;
 pub const PROCESSES: usize = 8;
 
 /// The most operations of one call.
-pub const OPERATIONS: usize = 8;
+pub const OPERATIONS: usize = 32;
 
 /// The largest value of a semaphore; the smallest is 0.
 pub const VALUE_MAX: u16 = 32_767;

@@ -63,7 +63,7 @@ returns-4 c a =
     let d = called (c .before .before .before) in
     rw (d .0, d .1, sym (c .before .before .no-array .ensures) ∙ c .before .if3 .left, lt-ltb arrayBytes _ (c .if4 .taken))
 
--- .. with an array of at most eight operations
+-- .. with an array that is not too long
 arrayed : (c : tie.Else4)
     → let b = c .before .before .before .before .before .before .before .before .args in
     (noProcess (b .process) ≡ false) × (asleep (b .process) (queueIn (rowIn (b .host .now))) ≡ false) × (eqb (length (b .bytes .now)) 0 || not (eqb (length (b .bytes .now) % operationBytes) 0) ≡ false)

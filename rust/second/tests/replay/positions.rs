@@ -11,8 +11,8 @@ fn behind(position: usize, operation: Operation) -> Vec<Operation> {
 }
 
 #[test]
-fn an_operate_names_each_of_the_eight() {
-    for position in 0..8 {
+fn an_operate_names_any_of_its_operations() {
+    for position in 0..32 {
         let line = |code: i32| format!("{code}@{position} 0 0");
         check_on_a_set(&[
             (set_value(0, 0, 1), "0 0 0"),

@@ -149,11 +149,14 @@ fn first_identifier(host: &Host) -> Option<i32> {
 }
 
 #[test]
-fn situation_13_eight_is_the_limit() {
-    let zeros = [(0, 0, 0); 9];
+fn situation_13_thirty_two_is_the_limit() {
+    let ones = [(7, 1, 0); 255];
     check_on_a_set(&[
-        (operate(1, 0, &zeros[..8]), "0 0 0"),
-        (operate(1, 0, &zeros), "7 0 0"),
+        (operate(1, 0, &ones[..32]), "0 0 0"),
+        (query(0, 7), "0 32 1 0 0"),
+        (operate(1, 0, &ones[..33]), "7 0 0"),
+        (operate(1, 0, &ones), "7 0 0"),
+        (set_value(0, 7, 0), "0 0 0"),
         (operate(1, 0, &[(7, 0, 0)]), "0 0 0"),
         (operate(1, 0, &[(8, 0, 0)]), "27 0 0"),
     ]);

@@ -2,7 +2,7 @@
 
 use std::fmt::Debug;
 
-use vairolent::{Answer, Error, Host, Operation, ALL, VALUE_MAX};
+use vairolent::{Answer, Error, Host, Operation, ALL, OPERATIONS, VALUE_MAX};
 
 use crate::{sleep, with_set};
 
@@ -47,7 +47,7 @@ fn operate_by_its_checks() {
     }
     refused(&mut host, Error::ProcessAsleep, |host| host.operate(2, 9, &[]));
     refused(&mut host, Error::Invalid, |host| host.operate(1, 9, &[]));
-    for length in [9, 1_000] {
+    for length in [OPERATIONS + 1, 255, 1_000] {
         let many = vec![far; length];
         refused(&mut host, Error::TooManyOperations, |host| host.operate(1, 9, &many));
     }
