@@ -1,6 +1,6 @@
 -- The parts of the row that hold the queue: reading a sleeper, one that joins, and one that is taken out.
-use Prim.Native.Nat.{ℕ, zero, suc, _+_, _*_, _-_, _≤_, _<_}
-use native.Mathlib.Nat.{not-suc-le-zero, le-of-suc-le-suc}
+use Prim.Native.Nat.{ℕ, zero, suc, min, _+_, _*_, _-_, _≤_, _<_}
+use native.Mathlib.Nat.{not-suc-le-zero, le-of-suc-le-suc, min-eq-right}
 use native.Mathlib.Omega.{arith}
 use mathlib.Core.Path.{_≡_, refl, sym, ap, ap₂, subst, _∙_}
 use mathlib.Core.List.{List, [], _∷_, _++_, map, append-assoc}
@@ -179,7 +179,8 @@ module _ (q : List Sleeper) (f : Queued q) (i : ℕ) (h : i < length q) where
   abbrev pub emptied : Row → Row
   emptied r =
       let p = getD q i noSleeper .process in
-      put (with (withEntry kept p (λ (k : Kept). 0) (with r arrays (sets (r arrays) (arrayBytes * entry p) (replicate (length (arrayIn r p)) 0)))) order (without (r order) i ++ 0 ∷ [])) asleep 0 (length q - 1)
+      with (put (with (withEntry kept p (λ (k : Kept). 0) r) order (without (r order) i ++ 0 ∷ [])) asleep 0 (length q - 1)) arrays
+      (sets (r arrays) (arrayBytes * entry p) (replicate (min arrayBytes (getD (r sizes) (entry p) 0)) 0))
 
   pub taken : (r : Row) → emptied (withQueue r q) ≡ withQueue r (without q i)
   taken r =
@@ -188,7 +189,7 @@ module _ (q : List Sleeper) (f : Queued q) (i : ℕ) (h : i < length q) where
       (ap (λ (n : ℕ). n ∷ []) (omega (arith, length-without q i h)))
       (order-without q i h (f .few))
       (map-each kept (λ k. by-out (k .of)))
-      (arrays-out (ap length (array-read-back r))))
+      (arrays-out (ap (min arrayBytes) (size-read r) ∙ min-eq-right (room-at .short))))
 
 -- ---- one that joins
 

@@ -9,8 +9,8 @@ use mathlib.Core.Bool.{Bool, true, false, cond, _||_}
 use mathlib.Core.List.{List, [], _∷_}
 use borrow.Author.Tests.{ltb-false, leb-false, eqb-false, le-ltb, lt-leb, ne-eqb}
 use lib.Dec.{eqb, ltb, leb}
-use lib.ListN.{length, getD, set, take, drop, replicate, length-take, length-drop, length-set, drop-of-length-le}
-use lib.Seq.{sets, take-take, take-nil, drop-drop, drop-cons, take-all, length-take-le}
+use lib.ListN.{length, getD, set, take, drop, replicate, length-take, length-set, drop-of-length-le}
+use lib.Seq.{sets, take-take, take-nil, drop-drop, drop-cons, take-all}
 use Rattle.model.specs.Limits.{slots, semaphores, processes, arrayBytes, allAdjustments}
 use Rattle.model.specs.State.{undoRow}
 use Rattle.model.specs.Checks.{noProcess}
@@ -158,13 +158,6 @@ module _ (h : List ℕ) (p i : ℕ) (e : i ≡ entry p) where
       lent-is n long l (omega (arith, en, min-le-left arrayBytes size))
       ∙ ap (λ (k : ℕ). take k (drop (arrayBytes * entry p) (rowIn h arrays))) (en ∙ ap (λ (k : ℕ). min arrayBytes k) es)
       ∙ sym (take-min (getD (rowIn h sizes) (entry p) 0) arrayBytes (drop (arrayBytes * entry p) (rowIn h arrays)))
-
-  pub array-long : (n size : ℕ) → length h ≡ hostBytes → i < processes → size ≡ getD (rowIn h sizes) (entry p) 0 → n ≡ min arrayBytes size → n ≡ length (arrayIn (rowIn h) p)
-  array-long n size long l es en =
-      let d : place arrays .at + arrayBytes * i + n - (place arrays .at + arrayBytes * i) ≡ n = omega arith in
-      sym (length-take-le n (drop (place arrays .at + arrayBytes * i) h) (omega (arith, en, min-le-left arrayBytes size, long, length-drop (place arrays .at + arrayBytes * i) h)))
-      ∙ ap (λ (k : ℕ). length (take k (drop (place arrays .at + arrayBytes * i) h))) (sym d)
-      ∙ ap length (array-there n size long l es en)
 
   pub array-none : processes ≤ i → [] ≡ arrayIn (rowIn h) p
   unfolding arrayIn

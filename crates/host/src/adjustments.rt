@@ -33,11 +33,12 @@ pub fn adjustments_of(
     let all: &[i16] = adjustments;
     let mut out = [0i16; SEMAPHORES];
     let start = start_of(process, slot);
-    if start < ALL_ADJUSTMENTS {
-        for j in 0..SEMAPHORES {
-            let adjustment = all[start + j];
-            out[j] = adjustment;
-        }
+    if ALL_ADJUSTMENTS <= start {
+        return out;
+    }
+    for j in 0..SEMAPHORES {
+        let adjustment = all[start + j];
+        out[j] = adjustment;
     }
     out
 }

@@ -40,12 +40,13 @@ pub fn values_of(host: &[u8; HOST_BYTES], slot: usize) -> [u16; SEMAPHORES]
     ensures { λ r. ⌜ r ≡ from 0 semaphores (row slot) (rowIn (now (host .entry)) values) ⌝ }
 {
     let mut out = [0u16; SEMAPHORES];
-    if slot < SETS {
-        let start = VALUES_AT + 2 * (slot * SEMAPHORES);
-        for j in 0..SEMAPHORES {
-            let value = half_at(host, start + 2 * j);
-            out[j] = value;
-        }
+    if SETS <= slot {
+        return out;
+    }
+    let start = VALUES_AT + 2 * (slot * SEMAPHORES);
+    for j in 0..SEMAPHORES {
+        let value = half_at(host, start + 2 * j);
+        out[j] = value;
     }
     out
 }

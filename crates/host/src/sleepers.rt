@@ -1,7 +1,7 @@
 // The sleepers: their order, and by process what each sleeps with.
 ghost use mathlib.Core.Path.{_≡_};
 ghost use Prim.Native.Nat.{min, _*_};
-ghost use lib.ListN.{length, getD, take, replicate};
+ghost use lib.ListN.{getD, take, replicate};
 ghost use lib.Seq.{sets};
 ghost use Rattle.model.specs.Limits.{arrayBytes};
 ghost use Rattle.host.specs.Parts.{asleep, order, sleepsAt, sizes, names, arrays, rowIn, with, put};
@@ -169,16 +169,16 @@ pub fn store_array(host: &mut [u8; HOST_BYTES], process: u8, bytes: &[u8])
     }
 }
 
-// The bytes of the array that a process sleeps on are zero, as many as it has.
-pub fn clear_array(host: &mut [u8; HOST_BYTES], process: u8)
-    ensures { λ _. ⌜ rowIn (now (host .exit)) ≡ with (rowIn (now (host .entry))) arrays (sets (rowIn (now (host .entry)) arrays) (arrayBytes * entry process) (replicate (length (arrayIn (rowIn (now (host .entry))) process)) 0)) ⌝ }
+// The first bytes of the room for a process's array are zero, so many as its array had.
+pub fn clear_array(host: &mut [u8; HOST_BYTES], process: u8, size: usize)
+    ensures { λ _. ⌜ rowIn (now (host .exit)) ≡ with (rowIn (now (host .entry))) arrays (sets (rowIn (now (host .entry)) arrays) (arrayBytes * entry process) (replicate (min arrayBytes size) 0)) ⌝ }
 {
-    let size = fitting(size_at(&*host, process));
     let all: &mut [u8] = host;
     let i = entry_of(process);
     if i < PROCESSES {
         let from = ARRAYS_AT + ARRAY_BYTES * i;
-        for j in 0..size {
+        let fits = fitting(size);
+        for j in 0..fits {
             all[from + j] = 0;
         }
     }

@@ -1,5 +1,5 @@
 -- A row whose parts hold a queue: it does so again after a change, one is taken out, and one joins.
-use Prim.Native.Nat.{ℕ, _+_, _*_, _-_, _<_}
+use Prim.Native.Nat.{ℕ, min, _+_, _*_, _-_, _<_}
 use mathlib.Core.Path.{_≡_, refl, sym, ap, ap₂, subst, _∙_}
 use mathlib.Core.List.{List, [], _∷_, _++_}
 use lib.ListN.{length, getD, take, replicate}
@@ -7,8 +7,8 @@ use lib.Seq.{sets}
 use Rattle.model.specs.Limits.{processes, arrayBytes}
 use Rattle.model.specs.State.{Sleeper, noSleeper}
 use Rattle.model.specs.Waking.{without}
-use Rattle.host.specs.Parts.{Part, asleep, order, sleepsAt, arrays, Row, with, put}
-use Rattle.host.specs.Holding.{Kept, kept, withQueue, entry, arrayIn, queueIn}
+use Rattle.host.specs.Parts.{Part, asleep, order, sleepsAt, sizes, arrays, Row, with, put}
+use Rattle.host.specs.Holding.{Kept, kept, withQueue, entry, queueIn}
 use Rattle.host.specs.Queue.{Room, Queued, QueueHeld}
 use Rattle.host.proofs.PartLaws.{by-groups}
 use Rattle.host.proofs.ProcessLaws.{Awake}
@@ -52,36 +52,38 @@ module _ {r : Row} (k : QueueHeld r) where
   slot-is i h e =
       ap₂ (λ (l : List ℕ) (p : ℕ). getD l (entry p) 0) (part-is sleepsAt) (e ∙ process-is i h) ∙ slot-read queue (k .fits) i h r
 
--- ---- one is taken out: what its process has is cleared, and the order moves up
+-- ---- one is taken out: what its process has is put to 0, the order moves up, and its array is cleared
 
-abbrev clearedOf : ℕ → Row → Row
-clearedOf p r = withEntry kept p (λ (k : Kept). 0) (with r arrays (sets (r arrays) (arrayBytes * entry p) (replicate (length (arrayIn r p)) 0)))
+abbrev awoken : ℕ → Row → Row
+awoken p r = withEntry kept p (λ (k : Kept). 0) r
 
 abbrev shortened : ℕ → ℕ → Row → Row
 shortened at last r = put (with r order (movedUp (r order) at last)) asleep 0 last
 
-module _ {r r₁ r₂ : Row} {p : ℕ} (k : QueueHeld r) (at : ℕ) (h : at < length (queueIn r)) (ep : p ≡ getD (r order) at 0)
-    (e₁ : r₁ ≡ with r arrays (sets (r arrays) (arrayBytes * entry p) (replicate (length (arrayIn r p)) 0))) (e₂ : r₂ ≡ withEntry kept p (λ (k : Kept). 0) r₁) where
-  cleared : r₂ ≡ clearedOf p r
-  cleared = e₂ ∙ ap (withEntry kept p (λ (k : Kept). 0)) e₁
+abbrev clearedOf : ℕ → ℕ → Row → Row
+clearedOf p size r = with r arrays (sets (r arrays) (arrayBytes * entry p) (replicate (min arrayBytes size) 0))
 
-  pub still-asleep : getD (r₂ asleep) 0 0 ≡ length (queueIn r)
-  still-asleep = ap (λ (x : Row). getD (x asleep) 0 0) cleared ∙ asleep-is k
+module _ {r r₁ : Row} {p : ℕ} (k : QueueHeld r) (at : ℕ) (h : at < length (queueIn r)) (ep : p ≡ getD (r order) at 0) (e₁ : r₁ ≡ awoken p r) where
+  pub still-asleep : getD (r₁ asleep) 0 0 ≡ length (queueIn r)
+  still-asleep = ap (λ (x : Row). getD (x asleep) 0 0) e₁ ∙ asleep-is k
 
   moved-out : movedUp (r order) at (length (queueIn r) - 1) ≡ without (r order) at ++ 0 ∷ []
   moved-out =
       subst (λ (l : List ℕ). movedUp l at (length (queueIn r) - 1) ≡ without l at ++ 0 ∷ []) (sym (part-is k order)) (order-moved (queueIn r) at h (k .fits .few))
 
-  pub taken-out : {r₃ r₄ : Row} {last : ℕ} → last ≡ getD (r₂ asleep) 0 0 - 1 → r₃ ≡ with r₂ order (movedUp (r₂ order) at last) → r₄ ≡ put r₃ asleep 0 last
+  pub taken-out : {r₂ r₃ r₄ : Row} {last size : ℕ} → size ≡ getD (r sizes) (entry p) 0 → last ≡ getD (r₁ asleep) 0 0 - 1
+      → r₂ ≡ with r₁ order (movedUp (r₁ order) at last) → r₃ ≡ put r₂ asleep 0 last → r₄ ≡ clearedOf p size r₃
       → r₄ ≡ withQueue r (without (queueIn r) at)
-  taken-out {r₃} {r₄} {last} el e₃ e₄ =
+  taken-out {r₂} {r₃} {r₄} {last} {size} es el e₂ e₃ e₄ =
       let q : List Sleeper = queueIn r in
       let s : Sleeper = getD q at noSleeper in
       let here : p ≡ s .process = ep ∙ process-is k at h in
       let few : last ≡ length q - 1 = el ∙ ap (λ (n : ℕ). n - 1) still-asleep in
-      e₄ ∙ ap (λ (x : Row). put x asleep 0 last) e₃
-      ∙ ap₂ (λ (x : Row) (n : ℕ). shortened at n x) (cleared ∙ ap (λ (n : ℕ). clearedOf n r) here) few
-      ∙ ap (λ (l : List ℕ). put (with (clearedOf (s .process) r) order l) asleep 0 (length q - 1)) moved-out
+      let whole : r₃ ≡ put (with (awoken p r) order (without (r order) at ++ 0 ∷ [])) asleep 0 (length q - 1) =
+      e₃ ∙ ap (λ (x : Row). put x asleep 0 last) e₂ ∙ ap₂ (λ (x : Row) (n : ℕ). shortened at n x) e₁ few
+      ∙ ap (λ (l : List ℕ). put (with (awoken p r) order l) asleep 0 (length q - 1)) moved-out in
+      e₄ ∙ ap₂ (clearedOf p) es whole
+      ∙ ap (λ (n : ℕ). clearedOf n (getD (r sizes) (entry n) 0) (put (with (awoken n r) order (without (r order) at ++ 0 ∷ [])) asleep 0 (length q - 1))) here
       ∙ ap (emptied q (k .fits) at h) (k .holds)
       ∙ taken q (k .fits) at h r
 

@@ -77,11 +77,12 @@ pub fn take_out(host: &mut [u8; HOST_BYTES], at: usize)
     ensures { λ _. ⌜ rowIn (now (host .exit)) ≡ withQueue (rowIn (now (host .entry))) (without (queueIn (rowIn (now (host .entry)))) at) ⌝ }
 {
     let process = process_at(&*host, at);
-    clear_array(&mut *host, process);
+    let size = size_at(&*host, process);
     put_call(&mut *host, process, 0, 0, 0);
     let last = asleep_of(&*host) - 1;
     move_up(&mut *host, at, last);
-    put_asleep(host, last as u8);
+    put_asleep(&mut *host, last as u8);
+    clear_array(host, process, size);
 }
 
 // Does the process sleep?

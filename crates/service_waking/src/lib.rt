@@ -120,7 +120,7 @@ fn settle(
     }
 }
 
-// The sleeper at a position is finished as it was judged: its array is settled, it is taken out, and its waking noted.
+// The sleeper at a position is finished as it was judged: its array is settled, its waking noted, and it is taken out.
 fn finish(
     host: &mut [u8; HOST_BYTES],
     adjustments: &mut [i16; ALL_ADJUSTMENTS],
@@ -137,9 +137,9 @@ fn finish(
     let values = looked.values;
     let undo = looked.undo;
     settle(&mut *host, adjustments, at, outcome, values, undo);
-    take_out(host, at);
     let position = decided(outcome, looked.position);
     note(wakings, woken, process, ending(outcome), position);
+    take_out(host, at);
 }
 
 // "at the first that is finished, take it out and begin again at the oldest": the round is left from inside its judging

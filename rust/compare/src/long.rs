@@ -39,7 +39,11 @@ fn operate(scene: &mut Scene) -> Body {
     let caller = scene.caller();
     let rng = &mut scene.rng;
     let length = FEW + rng.below(OPERATIONS - FEW + 1);
-    let decides = if rng.once_in(2) { length } else { rng.pick(&[rng.below(length), length - 1]) };
+    let decides = match rng.below(4) {
+        0 => rng.below(length),
+        1 => length - 1,
+        _ => length,
+    };
     let mut values = target.values;
     let array: Vec<Operation> = (0..length)
         .map(|at| if at == decides { decider(rng, &values) } else { step(rng, &mut values) })
@@ -72,8 +76,8 @@ fn decider(rng: &mut Rng, values: &[i32]) -> Operation {
 #[cfg(test)]
 mod tests {
     use super::*;
-    use second::{Event, Host, Report, Rule, FILE_MAX};
-    use second::{event::OPERATION, Answer};
+    use second::event::OPERATION;
+    use second::{Answer, Event, Host, Report, Rule, FILE_MAX};
 
     /// Every array is as long as said, all lengths come, and many are done, sleep and are woken.
     #[test]

@@ -20,6 +20,11 @@ abbrev μ-loop : tie.MeasureT-loop
 start-of-requires : tie.Need-start-of-requires Inv-loop μ-loop
 start-of-requires c κs = search needs
 
+returns : tie.Need-returns Inv-loop μ-loop
+returns c =
+    let a = c .before .before .before .args in
+    rw (← c .before .start-of .ensures) (sym (from-beyond (pos 0) semaphores (c .before .start-of .result) (a .adjustments .now) (search needs)))
+
 loop-holds : tie.Need-loop-holds Inv-loop μ-loop
 loop-holds c = read-none (pos 0) _ _ _ _ refl
 
@@ -33,7 +38,7 @@ shared-slice-copy-out-adjustment : tie.Need-shared-slice-copy-out-adjustment Inv
 shared-slice-copy-out-adjustment c =
     let s = c .before .before .before .start-of in
     let a = c .before .before .before .before .before .args in
-    omega (arith, undo-room (a .process) (a .slot) (s .ensures) (c .before .before .if1 .taken))
+    omega (arith, undo-room (a .process) (a .slot) (s .ensures) (c .before .before .if1 .left))
 
 mul-out : tie.Need-mul-out Inv-loop μ-loop
 mul-out c = search needs
@@ -51,13 +56,8 @@ loop-again : tie.Need-loop-again Inv-loop μ-loop
 loop-again c =
     read-more _ (c .before .before .loop .inv) (c .before .loop-test .taken) (toZ-ofZ {w = w16} (sfits-of (c .adjustment .given)))
 
-returns : tie.Need-returns Inv-loop μ-loop
-returns c = rw (← c .before .before .before .start-of .ensures) (read-all (c .before .loop .inv) (c .loop-test .left))
-
 returns-2 : tie.Need-returns-2 Inv-loop μ-loop
-returns-2 c =
-    let a = c .before .before .before .args in
-    rw (← c .before .start-of .ensures) (sym (from-beyond (pos 0) semaphores (c .before .start-of .result) (a .adjustments .now) (search needs)))
+returns-2 c = rw (← c .before .before .before .start-of .ensures) (read-all (c .before .loop .inv) (c .loop-test .left))
 
 pub adjustments-of-spec : {M : Type 1} → statement M
 adjustments-of-spec =
@@ -66,6 +66,7 @@ adjustments-of-spec =
     Inv-loop
     μ-loop
     start-of-requires
+    returns
     loop-holds
     add-adjustment
     mul-adjustment
@@ -75,5 +76,4 @@ adjustments-of-spec =
     add-j
     loop-less
     loop-again
-    returns
     returns-2)

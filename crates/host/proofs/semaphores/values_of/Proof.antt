@@ -17,6 +17,11 @@ Inv-loop host slot out₀ start j₀ out j = Reading 0 semaphores (row slot) (ro
 abbrev μ-loop : tie.MeasureT-loop
 μ-loop host slot out₀ start j₀ out j = semaphores - j
 
+returns : tie.Need-returns Inv-loop μ-loop
+returns c =
+    let a = c .before .args in
+    sym (from-beyond 0 semaphores (row (a .slot)) (rowIn (a .host .now) values) (omega (arith, length-part values (a .host .now))))
+
 mul-start : tie.Need-mul-start Inv-loop μ-loop
 mul-start c = search needs
 
@@ -56,13 +61,8 @@ loop-again c =
     let l = c .before .before .loop in
     read-more (c .half-at .result) (l .inv) (c .before .loop-test .taken) (c .half-at .ensures ∙ read-further values (row (a .slot)) (l .j) (a .host .now) (omega arith))
 
-returns : tie.Need-returns Inv-loop μ-loop
-returns c = read-all (c .before .loop .inv) (c .loop-test .left)
-
 returns-2 : tie.Need-returns-2 Inv-loop μ-loop
-returns-2 c =
-    let a = c .before .args in
-    sym (from-beyond 0 semaphores (row (a .slot)) (rowIn (a .host .now) values) (omega (arith, length-part values (a .host .now))))
+returns-2 c = read-all (c .before .loop .inv) (c .loop-test .left)
 
 pub values-of-spec : {M : Type 1} → statement M
 values-of-spec =
@@ -70,6 +70,7 @@ values-of-spec =
     (tie.spec
     Inv-loop
     μ-loop
+    returns
     mul-start
     mul-start-2
     add-start
@@ -82,5 +83,4 @@ values-of-spec =
     add-j
     loop-less
     loop-again
-    returns
     returns-2)
