@@ -42,6 +42,13 @@ next-is v (negsuc n) = lowered (ltb v (suc n))
     lowered true = refl
     lowered false = rw (le-ltb (v - suc n) 0 (omega arith)) (either (ltb 32767 (v - suc n)))
 
+-- an amount of 0
+pub next-zero : (v : ℕ) (z : ℤ) → isZero z ≡ true → nextValue v z ≡ cond (eqb v 0) (To v) Stop
+unfolding nextValue isZero
+next-zero v (pos zero) h = refl
+next-zero v (pos (suc n)) h = clash (sym (ne-eqb (suc n) 0 (λ e. omega arith)) ∙ h)
+next-zero v (negsuc n) h = clash h
+
 -- where an amount that is not above 0 leads can be cast to sixteen bits, if it is not below 0
 pub lowered-fits : (v : ℕ) (z : ℤ) → Fits w16 v → ltZ (movedTo v z) (pos 0) ≡ false → ltZ (pos 0) z ≡ false → T (nonNeg (movedTo v z)) × Fits w16 (natAbs (movedTo v z))
 unfolding isZero

@@ -37,10 +37,16 @@ pub fn moved(value: u16, amount: i16) -> i32
 }
 
 // The value with the amount added, or why there is none. The common case is one test of the range. A value above it can only
-// be lowered.
+// be lowered. An amount of 0 is told apart first, so that the others wait for no choice.
 pub fn next_value(value: u16, amount: i16) -> Next
     ensures { λ r. ⌜ r ≡ nextValue value amount ⌝ }
 {
+    if amount == 0 {
+        if value == 0 {
+            return Next::To(0);
+        }
+        return Next::Stop;
+    }
     let new = moved(value, amount);
     if 0 <= new && new <= MOST {
         Next::To(new as u16)

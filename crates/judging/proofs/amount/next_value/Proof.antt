@@ -1,5 +1,6 @@
--- Where the amount leads decides (proofs/Values.antt).
+-- An amount of 0 is told apart; of any other, where it leads decides (proofs/Values.antt).
 use borrow.Author.Needs.{needs}
+use borrow.Author.Tests.{eq-eqb, ne-eqb}
 use mathlib.Core.Path.{_≡_, sym, _∙_}
 use mathlib.Core.Bool.{true, false}
 use mathlib.Core.Logic.{⊎-elim}
@@ -8,69 +9,89 @@ use lib.Signed.{ltZ}
 use mir.Syntax.{w32}
 use mir.Facts.{toZ-ofZ}
 use mir.Val.{toZ, ofZ}
+use Rattle.model.specs.Operation.{isZero}
 use Rattle.judging.specs.Stop.{movedTo}
 use Rattle.judging.proofs.Signed.{clash, unsigned, at-most}
-use Rattle.judging.proofs.Values.{next-is, lowered-fits}
+use Rattle.judging.proofs.Values.{next-is, next-zero, zero-is, lowered-fits}
 use Rattle.judging.proofs.amount.next_value.Statement.{statement}
 use Rattle.judging.proofs.amount.next_value.Tie as tie
+
+-- an amount of 0
+zero : (c : tie.Then1) → isZero (c .before .args .amount) ≡ true
+zero c = sym (zero-is (c .before .fits .amount)) ∙ eq-eqb _ _ (c .if1 .taken)
+
+returns : tie.Need-returns
+returns c =
+    let a = c .before .before .args in
+    rw (next-zero (a .value) (a .amount) (zero (c .before)), eq-eqb (a .value) 0 (c .if2 .taken), c .if2 .taken)
+
+returns-2 : tie.Need-returns-2
+returns-2 c =
+    let a = c .before .before .args in
+    rw (next-zero (a .value) (a .amount) (zero (c .before)), ne-eqb (a .value) 0 (c .if2 .left))
 
 moved-requires : tie.Need-moved-requires
 moved-requires c κs = search needs
 
 -- where the amount leads
 abbrev new : tie.After-moved → ℤ
-new c = movedTo (c .before .args .value) (c .before .args .amount)
+new c = movedTo (c .before .before .args .value) (c .before .before .args .amount)
 
 -- .. as it stands in a local
 new-is : (c : tie.After-moved) → toZ w32 (ofZ w32 (c .moved .result)) ≡ new c
-new-is c = toZ-ofZ (record { sfits = c .moved .ok }) ∙ (rw (toZ-ofZ (c .before .fits .amount)) at (c .moved .ensures))
+new-is c = toZ-ofZ (record { sfits = c .moved .ok }) ∙ (rw (toZ-ofZ (c .before .before .fits .amount)) at (c .moved .ensures))
 
 -- in range
-low : (c : tie.Then2) → ltZ (new (c .before .before)) (pos 0) ≡ false
-low c = at-most (pos 0) (new (c .before .before)) true (rw (new-is (c .before .before)) at (c .before .if1 .taken))
+low : (c : tie.Then4) → ltZ (new (c .before .before)) (pos 0) ≡ false
+low c = at-most (pos 0) (new (c .before .before)) true (rw (new-is (c .before .before)) at (c .before .if3 .taken))
 
-high : (c : tie.Then2) → ltZ (pos 32767) (new (c .before .before)) ≡ false
-high c = at-most (new (c .before .before)) (pos 32767) true (rw (new-is (c .before .before)) at (c .if2 .taken))
+high : (c : tie.Then4) → ltZ (pos 32767) (new (c .before .before)) ≡ false
+high c = at-most (new (c .before .before)) (pos 32767) true (rw (new-is (c .before .before)) at (c .if4 .taken))
 
 -- neither in range nor below 0
-above : (c : tie.Else3) → ltZ (pos 32767) (new (c .before .before)) ≡ true
+above : (c : tie.Else5) → ltZ (pos 32767) (new (c .before .before)) ≡ true
 above c =
     let e = new-is (c .before .before) in
     let n = new (c .before .before) in
     ⊎-elim
     (λ w. at-most n (pos 32767) false (rw e at (w .1 .left)))
-    (λ w. clash (sym (rw e at (c .if3 .left)) ∙ at-most (pos 0) n false (rw e at (w .left))))
-    (c .before .if1 .came)
+    (λ w. clash (sym (rw e at (c .if5 .left)) ∙ at-most (pos 0) n false (rw e at (w .left))))
+    (c .before .if3 .came)
 
-cast-t7 : tie.Need-cast-t7
-cast-t7 c = rw (new-is (c .before .before)) (unsigned (new (c .before .before)) (low c) (high c))
+cast-t9 : tie.Need-cast-t9
+cast-t9 c = rw (new-is (c .before .before)) (unsigned (new (c .before .before)) (low c) (high c))
 
-cast-t12 : tie.Need-cast-t12
-cast-t12 c =
+cast-t14 : tie.Need-cast-t14
+cast-t14 c =
     let m = c .before .before .before in
+    let s = m .before .before in
     let e = new-is m in
-    rw e (lowered-fits _ _ (m .before .fits .value) (rw e at (c .before .if3 .left)) (rw (toZ-ofZ (m .before .fits .amount)) at (c .if4 .left)))
-
-returns : tie.Need-returns
-returns c =
-    let m = c .before .before in
-    rw (new-is m, next-is (m .before .args .value) (m .before .args .amount), low c, high c)
-
-returns-2 : tie.Need-returns-2
-returns-2 c =
-    let m = c .before .before in
-    rw (next-is (m .before .args .value) (m .before .args .amount), rw (new-is m) at (c .if3 .taken))
+    rw e (lowered-fits _ _ (s .fits .value) (rw e at (c .before .if5 .left)) (rw (toZ-ofZ (s .fits .amount)) at (c .if6 .left)))
 
 returns-3 : tie.Need-returns-3
 returns-3 c =
-    let m = c .before .before .before in
-    rw (next-is (m .before .args .value) (m .before .args .amount), rw (new-is m) at (c .before .if3 .left), above (c .before), rw (toZ-ofZ (m .before .fits .amount)) at (c .if4 .taken))
+    let m = c .before .before in
+    let a = m .before .before .args in
+    rw (new-is m, next-is (a .value) (a .amount), low c, high c)
 
 returns-4 : tie.Need-returns-4
 returns-4 c =
+    let m = c .before .before in
+    let a = m .before .before .args in
+    rw (next-is (a .value) (a .amount), rw (new-is m) at (c .if5 .taken))
+
+returns-5 : tie.Need-returns-5
+returns-5 c =
     let m = c .before .before .before in
-    rw (new-is m, next-is (m .before .args .value) (m .before .args .amount), rw (new-is m) at (c .before .if3 .left), above (c .before), rw (toZ-ofZ (m .before .fits .amount)) at (c .if4 .left))
+    let s = m .before .before in
+    rw (next-is (s .args .value) (s .args .amount), rw (new-is m) at (c .before .if5 .left), above (c .before), rw (toZ-ofZ (s .fits .amount)) at (c .if6 .taken))
+
+returns-6 : tie.Need-returns-6
+returns-6 c =
+    let m = c .before .before .before in
+    let s = m .before .before in
+    rw (new-is m, next-is (s .args .value) (s .args .amount), rw (new-is m) at (c .before .if5 .left), above (c .before), rw (toZ-ofZ (s .fits .amount)) at (c .if6 .left))
 
 pub next-value-spec : {M : Type 1} → statement M
 next-value-spec =
-    tie.close (tie.spec moved-requires cast-t7 cast-t12 returns returns-2 returns-3 returns-4)
+    tie.close (tie.spec returns returns-2 moved-requires cast-t9 cast-t14 returns-3 returns-4 returns-5 returns-6)
