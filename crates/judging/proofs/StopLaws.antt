@@ -7,10 +7,10 @@ use mathlib.Core.Path.{_≡_, refl, sym, ap, _∙_}
 use mathlib.Core.Bool.{Bool, true, false, cond, not, _&&_}
 use mathlib.Core.List.{List, [], _∷_, _++_}
 use lib.ListN.{length, getD, set, take, length-take}
-use lib.Seq.{getD-take}
-use lib.IntN.{ℤ, pos, negsuc}
+use lib.Seq.{getD-take, set-getD}
+use lib.IntN.{ℤ, pos, negsuc, _-ℤ_}
 use lib.Signed.{ltZ}
-use borrow.Author.Tests.{le-leb, le-ltb, not-true, not-false}
+use borrow.Author.Tests.{le-leb, lt-ltb, le-ltb, not-true, not-false}
 use Rattle.model.specs.declared.Operation.{Operation}
 use Rattle.model.specs.declared.Next.{Next}
 use Rattle.model.specs.declared.Next.the-variants as next
@@ -21,7 +21,7 @@ use Rattle.model.specs.declared.Outcome.the-variants.{Done, Sleep, Again, Range
 use Rattle.model.specs.declared.Copies.{Copies}
 use Rattle.model.specs.declared.Judged.{Judged}
 use Rattle.model.specs.Limits.{semaphores, valueMax, operationBytes}
-use Rattle.model.specs.Operation.{operationAt, operationsFrom, operationsOf, noWait, withUndo}
+use Rattle.model.specs.Operation.{operationAt, operationsFrom, operationsOf, isZero, noWait, withUndo}
 use Rattle.model.specs.Judge.{nextValue, nextAdjustment, judged, withValue, undone, valued, step, goOn, judgeFrom, judge}
 use Rattle.model.specs.Checks.{inRange}
 use Rattle.model.specs.Counts.{noOperation}
@@ -49,6 +49,27 @@ module _ (bytes : List ℕ) (i : ℕ) (o : Operation) (vs : List ℕ) {n : ℕ} 
 
   pub stops-here : not (inRange new) ≡ true → stoppedAt o vs ≡ stopFrom (operations.rest bytes i) vs
   stops-here t = sym (turned ∙ rw (not-true (inRange new) t))
+
+-- .. where the amount is 0: it goes on from 0 to 0, and stops at any other value
+zero-out : (v : ℕ) → (v ≡ 0 → ⊥) → inRange (pos 0 -ℤ pos v) ≡ false
+unfolding inRange
+zero-out zero h = absurd (h refl)
+zero-out (suc v) h = rw (lt-ltb 0 (suc v) (omega arith))
+
+module _ (bytes : List ℕ) (i : ℕ) (o : Operation) (vs : List ℕ) {n : ℕ} (h : i < length bytes / 6) (eo : o ≡ operationAt bytes (i * 6)) (en : n ≡ o .number % semaphores)
+    (z : isZero (o .amount) ≡ true) where
+  leads : movedTo (getD vs n 0) (o .amount) ≡ pos 0 -ℤ pos (getD vs n 0)
+  leads = rw z
+
+  pub zero-on : getD vs n 0 ≡ 0 → stopFrom (operations.rest bytes (i + 1)) vs ≡ stopFrom (operations.rest bytes i) vs
+  unfolding inRange valueOf
+  zero-on e =
+      let here : movedTo (getD vs n 0) (o .amount) ≡ pos 0 = leads ∙ rw e in
+      let still : set vs n 0 ≡ vs = ap (set vs n) (sym e) ∙ set-getD vs n 0 in
+      rw still at (goes-on bytes i o vs h eo en (sym here) refl)
+
+  pub zero-stops : (getD vs n 0 ≡ 0 → ⊥) → stoppedAt o vs ≡ stopFrom (operations.rest bytes i) vs
+  zero-stops e = stops-here bytes i o vs h eo en (sym leads) (ap not (zero-out (getD vs n 0) e))
 
 pub stops-nowhere : (bytes vs : List ℕ) (i : ℕ) → i ≡ length bytes / 6 → stoppedAt noOperation vs ≡ stopFrom (operations.rest bytes i) vs
 unfolding stopFrom

@@ -23,6 +23,7 @@ pub use identifier::value_of;
 pub use named::names_of;
 pub use outcome::decided;
 pub use outcome::finishes;
+pub use stop::Stop;
 pub use stop::stop_of;
 pub use walk::Verdict;
 pub use walk::judge;

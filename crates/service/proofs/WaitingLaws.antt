@@ -104,9 +104,9 @@ sleeps Sleep e = refl
 sleeps Again e = let z : _≡_ {A = ℕ} 0 1 = cc in absurd (omega arith)
 sleeps Range e = let z : _≡_ {A = ℕ} 0 1 = cc in absurd (omega arith)
 
--- the operation alone, and the bytes that were lent
-pub stop-lent : (vs : List ℕ) {o : Operation} {left bytes room : List ℕ} → stoppedAt o left ≡ stopFrom (operationsOf bytes) vs → bytes ≡ room → o ≡ stopFrom (operationsOf room) vs .operation
-stop-lent vs e b = ap (λ (y : Stopped). y .operation) (e ∙ ap (λ (l : List ℕ). stopFrom (operationsOf l) vs) b)
+-- a number that is told within a set is within it again
+pub within-again : (o : ℕ) {n : ℕ} → n ≡ o % semaphores → n % semaphores ≡ o % semaphores
+within-again o e = ap (λ (k : ℕ). k % semaphores) e ∙ mod-eq-of-lt (omega arith)
 
 -- the sleeper of a process, of a slot
 module _ (x : Host) (k : Held x) (slot : ℕ) (small : slot < slots) {p : ℕ} (seat : Seat p (queueIn (x .row))) (here : mine slot (getD (queueIn (x .row)) (seat .at) noSleeper) ≡ true) where

@@ -18,10 +18,10 @@ use host::room_of;
 use host::size_at;
 use host::slot_byte;
 use host::values_of;
+use judging::Stop;
 use judging::is_negative;
 use judging::stop_of;
 use model::ALL_ADJUSTMENTS;
-use model::Operation;
 use model::PROCESSES;
 use model::SEMAPHORES;
 use service_waking::bit_of;
@@ -42,7 +42,7 @@ fn sleeps_at(host: &[u8; HOST_BYTES], process: u8, slot: u8) -> bool
 }
 
 // A sleeper waits at the semaphore of the operation where it stops: for an increase if the amount is negative, else for zero.
-fn wait_at(increase: &mut [u8; SEMAPHORES], zero: &mut [u8; SEMAPHORES], stop: Operation, bit: u8)
+fn wait_at(increase: &mut [u8; SEMAPHORES], zero: &mut [u8; SEMAPHORES], stop: Stop, bit: u8)
     ensures { λ _. ⌜ now (increase .exit) ≡ waitIf (isNegative (stop .amount)) (now (increase .entry)) (stop .number % semaphores) bit ⌝ }
     ensures { λ _. ⌜ now (zero .exit) ≡ waitIf (not (isNegative (stop .amount))) (now (zero .entry)) (stop .number % semaphores) bit ⌝ }
 {
@@ -63,10 +63,11 @@ fn judge_one(
     process: u8,
     values: [u16; SEMAPHORES],
     judged: &mut u8,
-) -> Operation
+) -> Stop
     requires { ⌜ IsProcess process ⌝ }
     requires { ⌜ hasBit (now judged) (bitOf process) ≡ false ⌝ }
-    ensures { λ r. ⌜ r ≡ stopFrom (operationsOf (roomIn (rowIn (now (host .entry))) process)) values .operation ⌝ }
+    ensures { λ r. ⌜ r .number ≡ stopFrom (operationsOf (roomIn (rowIn (now (host .entry))) process)) values .operation .number % semaphores ⌝ }
+    ensures { λ r. ⌜ r .amount ≡ stopFrom (operationsOf (roomIn (rowIn (now (host .entry))) process)) values .operation .amount ⌝ }
     ensures { λ _. ⌜ now (judged .exit) ≡ bitOr (now (judged .entry)) (bitOf process) ⌝ }
 {
     let mut copy = values;

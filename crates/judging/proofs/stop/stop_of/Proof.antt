@@ -1,19 +1,23 @@
 -- The invariant: going on from here stops where going from the start does.
 use borrow.Author.Needs.{needs}
+use borrow.Author.Tests.{eq-eqb}
 use mathlib.Core.Path.{_≡_, refl, sym, ap, _∙_}
-use mathlib.Core.Bool.{not}
+use mathlib.Core.Logic.{⊎-elim}
+use mathlib.Core.Bool.{true, not}
 use native.Mathlib.Omega.{arith}
 use Prim.Native.Nat.{_-_, _%_, _≤_}
+use lib.IntN.{ℤ}
 use lib.ListN.{getD}
 use mir.Syntax.{w16, w32}
 use mir.Facts.{toZ-ofZ}
 use mir.Val.{toZ, ofZ}
 use Rattle.model.specs.Limits.{semaphores}
-use Rattle.model.specs.Operation.{operationsOf}
+use Rattle.model.specs.Operation.{operationsOf, isZero}
 use Rattle.model.specs.Checks.{inRange}
-use Rattle.judging.specs.Stop.{movedTo, stopFrom}
+use Rattle.judging.specs.Stop.{movedTo, Stopped, stopFrom}
 use Rattle.judging.proofs.Operations.{rest, all}
-use Rattle.judging.proofs.StopLaws.{goes-on, stops-here, stops-nowhere}
+use Rattle.judging.proofs.Values.{zero-is}
+use Rattle.judging.proofs.StopLaws.{goes-on, stops-here, zero-on, zero-stops, stops-nowhere}
 use Rattle.judging.proofs.stop.stop_of.Statement.{statement}
 use Rattle.judging.proofs.stop.stop_of.Tie as tie
 
@@ -35,11 +39,17 @@ operation-at-requires c κs = search needs
 cast-number : tie.Need-cast-number Inv-loop μ-loop
 cast-number c = search needs
 
-mul-moved : tie.Need-mul-moved Inv-loop μ-loop
-mul-moved c = search needs
+rem-number : tie.Need-rem-number Inv-loop μ-loop
+rem-number c = search needs
 
-element-copy-out-moved : tie.Need-element-copy-out-moved Inv-loop μ-loop
-element-copy-out-moved c = search needs
+cast-value : tie.Need-cast-value Inv-loop μ-loop
+cast-value c = search needs
+
+mul-value : tie.Need-mul-value Inv-loop μ-loop
+mul-value c = search needs
+
+element-copy-out-value : tie.Need-element-copy-out-value Inv-loop μ-loop
+element-copy-out-value c = search needs
 
 moved-requires : tie.Need-moved-requires Inv-loop μ-loop
 moved-requires c κs = search needs
@@ -47,27 +57,49 @@ moved-requires c κs = search needs
 in-range-requires : tie.Need-in-range-requires Inv-loop μ-loop
 in-range-requires c κs = search needs
 
--- where the amount leads, as it stands in a local
+-- the turn of the loop in which an operation was read, and its amount as it stands in a local
+abbrev read : tie.After-value Inv-loop μ-loop → tie.After-operation-at Inv-loop μ-loop
+read c = c .before .before .before
+
+amount-is : (c : tie.After-value Inv-loop μ-loop) → let z = read c .operation-at .result .amount in toZ w16 (ofZ w16 z) ≡ z
+amount-is c = toZ-ofZ (record { sfits = c .before .struct-told .given .1 .0 .1 })
+
+-- an amount of 0
+zero : (c : tie.Then1 Inv-loop μ-loop) → isZero (read (c .before) .operation-at .result .amount) ≡ true
+zero c = sym (zero-is (record { sfits = c .before .before .struct-told .given .1 .0 .1 })) ∙ eq-eqb _ _ (c .if1 .taken)
+
+-- where any other leads, as it stands in a local
 new-is : (c : tie.After-moved Inv-loop μ-loop) → toZ w32 (ofZ w32 (c .moved .result)) ≡ c .moved .result
 new-is c = toZ-ofZ (record { sfits = c .moved .ok })
 
-leads : (c : tie.After-moved Inv-loop μ-loop) → let o = c .before .before .before .before in c .moved .result ≡ movedTo (getD (o .before .before .loop .values) (o .operation-at .result .number % semaphores) 0) (o .operation-at .result .amount)
-leads c = rw (toZ-ofZ {w = w16} {z = c .before .before .before .before .operation-at .result .amount} (record { sfits = c .before .struct-told .given .1 .0 .1 })) at (c .moved .ensures)
+leads : (c : tie.After-moved Inv-loop μ-loop) → let o = read (c .before .before) in c .moved .result ≡ movedTo (getD (o .before .before .loop .values) (o .operation-at .result .number % semaphores) 0) (o .operation-at .result .amount)
+leads c = rw (amount-is (c .before .before)) at (c .moved .ensures)
 
 in-range-is : (c : tie.After-in-range Inv-loop μ-loop) → c .in-range .result ≡ inRange (c .before .moved .result)
 in-range-is c = rw (new-is (c .before)) at (c .in-range .ensures)
 
+-- what is promised, from one equation
+tells : {a b : Stopped} → a ≡ b → (a .operation .number % semaphores ≡ b .operation .number % semaphores) × ((a .operation .amount ≡ b .operation .amount) × (a .values ≡ b .values))
+tells e = (ap (λ (y : Stopped). y .operation .number % semaphores) e, (ap (λ (y : Stopped). y .operation .amount) e, ap (λ (y : Stopped). y .values) e))
+
 returns : tie.Need-returns Inv-loop μ-loop
 returns c =
-    let m = c .before .before in
-    let o = m .before .before .before .before in
+    let o = read (c .before .before) in
     let l = o .before .before .loop in
-    stops-here _ (l .i) (o .operation-at .result) (l .values) (o .before .loop-test .taken) (o .operation-at .ensures) refl (leads m)
-    (ap not (sym (in-range-is (c .before))) ∙ c .if1 .taken)
-    ∙ l .inv .1
+    rw (amount-is (c .before .before)) (tells (zero-stops _ (l .i) (o .operation-at .result) (l .values) (o .before .loop-test .taken) (o .operation-at .ensures) refl (zero (c .before)) (c .if2 .taken) ∙ l .inv .1))
+
+returns-2 : tie.Need-returns-2 Inv-loop μ-loop
+returns-2 c =
+    let m = c .before .before in
+    let o = read (m .before .before) in
+    let l = o .before .before .loop in
+    rw (amount-is (m .before .before)) (tells (stops-here _ (l .i) (o .operation-at .result) (l .values) (o .before .loop-test .taken) (o .operation-at .ensures) refl (leads m) (ap not (sym (in-range-is (c .before))) ∙ c .if3 .taken) ∙ l .inv .1))
 
 value-of-requires : tie.Need-value-of-requires Inv-loop μ-loop
 value-of-requires c κs = search needs
+
+cast-values : tie.Need-cast-values Inv-loop μ-loop
+cast-values c = search needs
 
 mul-values : tie.Need-mul-values Inv-loop μ-loop
 mul-values c = search needs
@@ -83,13 +115,19 @@ loop-less c = search needs
 
 loop-again : tie.Need-loop-again Inv-loop μ-loop
 loop-again c =
-    let m = c .before .before .before in
-    let o = m .before .before .before .before in
+    let v = c .before in
+    let o = read v in
     let l = o .before .before .loop in
-    (search needs, rw (c .value-of .ensures, new-is m) (goes-on _ (l .i) (o .operation-at .result) (l .values) (o .before .loop-test .taken) (o .operation-at .ensures) refl (leads m) (ap not (sym (in-range-is (c .before .before))) ∙ c .before .if1 .left)) ∙ l .inv .1)
+    (search needs,
+    ⊎-elim
+    (λ w. rw (w .2) (zero-on _ (l .i) (o .operation-at .result) (l .values) (o .before .loop-test .taken) (o .operation-at .ensures) refl (zero (record { before = v; if1 = w .0 })) (w .1 .left)) ∙ l .inv .1)
+    (λ w.
+    let m : tie.After-moved Inv-loop μ-loop = record { before = record { before = v; if1 = w .0 }; moved = w .1 } in
+    rw (w .5, w .4 .ensures, new-is m) (goes-on _ (l .i) (o .operation-at .result) (l .values) (o .before .loop-test .taken) (o .operation-at .ensures) refl (leads m) (ap not (sym (in-range-is (record { before = m; in-range = w .2 }))) ∙ w .3 .left)) ∙ l .inv .1)
+    (c .if1 .came))
 
-returns-2 : tie.Need-returns-2 Inv-loop μ-loop
-returns-2 c = stops-nowhere _ _ (c .before .loop .i) (omega arith) ∙ c .before .loop .inv .1
+returns-3 : tie.Need-returns-3 Inv-loop μ-loop
+returns-3 c = tells (stops-nowhere _ _ (c .before .loop .i) (omega arith) ∙ c .before .loop .inv .1)
 
 pub stop-of-spec : {M : Type 1} → statement M
 stop-of-spec =
@@ -101,15 +139,19 @@ stop-of-spec =
     mul-operation-at
     operation-at-requires
     cast-number
-    mul-moved
-    element-copy-out-moved
+    rem-number
+    cast-value
+    mul-value
+    element-copy-out-value
+    returns
     moved-requires
     in-range-requires
-    returns
+    returns-2
     value-of-requires
+    cast-values
     mul-values
     element-write-values
     add-i
     loop-less
     loop-again
-    returns-2)
+    returns-3)

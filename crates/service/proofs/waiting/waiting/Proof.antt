@@ -1,12 +1,13 @@
 -- `service::waiting::waiting` meets its contract. The loop's invariant is `Walked`.
 use Prim.Native.Nat.{_+_, _-_}
 use native.Mathlib.Omega.{arith}
+use mathlib.Core.Path.{refl}
 use mathlib.Core.Logic.{⊎-elim}
 use borrow.Author.Needs.{needs}
 use Rattle.model.specs.Limits.{processes}
 use Rattle.host.specs.Holding.{Host, hostIn}
 use Rattle.service_table.specs.Numbered.{IsProcess}
-use Rattle.service.proofs.WaitingLaws.{Walked, walked-none, walked-by, walked-more, walked-not, walked-all}
+use Rattle.service.proofs.WaitingLaws.{Walked, walked-none, walked-by, walked-more, walked-not, walked-all, within-again}
 use Rattle.service.proofs.waiting.waiting.Statement.{statement}
 use Rattle.service.proofs.waiting.waiting.Tie as tie
 
@@ -65,7 +66,9 @@ loop-again c =
     let l = c .before .before .loop-test .taken in
     let e = c .before .sleeps-at .ensures in
     ⊎-elim
-    (λ v. rw (v .7, v .8, v .9, v .2 .ensures .1) (walked-more (host s) (s .pre .0) (s .args .slot) (s .pre .1) (t .loop .inv) l e (v .0 .taken) (t .before .values-of .ensures) (v .2 .ensures .0) (rw (v .5 .ensures) at (v .6 .ensures .0)) (rw (v .5 .ensures) at (v .6 .ensures .1))))
+    (λ v.
+    let told = rw (v .5 .ensures, v .2 .ensures .1 .0, within-again _ (v .2 .ensures .0)) at (v .6 .ensures) in
+    rw (v .7, v .8, v .9, v .2 .ensures .1 .1) (walked-more (host s) (s .pre .0) (s .args .slot) (s .pre .1) (t .loop .inv) l e (v .0 .taken) (t .before .values-of .ensures) refl (told .0) (told .1)))
     (λ v. rw (v .1, v .2, v .3) (walked-by (host s) (s .pre .0) (s .args .slot) (s .pre .1) (t .loop .inv) l e (v .0 .left)))
     (c .if1 .came)
 

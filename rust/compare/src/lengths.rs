@@ -1,0 +1,98 @@
+//! Follows the events of a file by their lines, to tell how arrays ended, by their lengths.
+
+use second::event::OPERATION;
+use second::Event;
+
+use crate::line::Line;
+
+/// An array by the number of its operations: as it is called with, and as a sleeper has it.
+#[derive(Clone, Copy, Debug, PartialEq, Eq, PartialOrd, Ord)]
+pub enum Length {
+    Called(usize),
+    Asleep(usize),
+}
+
+/// Those at the limit, with their names and the codes that have to come.
+pub const LENGTHS: [(Length, &str, &[i32]); 4] = [
+    (Length::Called(32), "operate of 32 with", &[-1, 0, 11, 34]),
+    (Length::Called(33), "operate of 33 with", &[7]),
+    (Length::Called(255), "operate of 255 with", &[7]),
+    (Length::Asleep(32), "waking of 32 with", &[0, 11, 34]),
+];
+
+#[derive(Default)]
+pub struct Lengths {
+    /// The operations of each process's last call that went to sleep.
+    asleep: [usize; 9],
+}
+
+impl Lengths {
+    /// Follows one event: the arrays that got a code, and which.
+    pub fn follow(&mut self, event: Event, line: &Line) -> Vec<(Length, i32)> {
+        let mut ended = Vec::new();
+        if let Event::Operate { process, operations, .. } = event {
+            let length = operations.len() / OPERATION;
+            ended.push((Length::Called(length), line.code.number));
+            if line.code.number == -1 {
+                self.asleep[usize::from(process)] = length;
+            }
+        }
+        for &(process, code) in &line.wakings {
+            ended.push((Length::Asleep(self.asleep[usize::from(process)]), code.number));
+        }
+        ended
+    }
+}
+
+#[cfg(test)]
+mod tests {
+    use super::*;
+    use crate::line::followed;
+    use crate::sweep;
+    use second::event::{create, operate, set_value, signal};
+    use second::run_file;
+
+    fn ended(file: &[u8]) -> Vec<(Length, i32)> {
+        let mut lengths = Lengths::default();
+        followed(file, |event, line| lengths.follow(event, line)).concat()
+    }
+
+    #[test]
+    fn called_and_woken() {
+        let takes = [(0, -1, 0); 255];
+        let run = [
+            create(1, 255, 255),
+            operate(1, 0, &takes[..32]),
+            operate(2, 0, &takes[..2]),
+            // Refused: their lengths are of no sleeper.
+            operate(1, 0, &takes[..3]),
+            operate(3, 0, &takes[..33]),
+            operate(0, 0, &takes),
+            operate(2, 0, &[]),
+            signal(2),
+            set_value(0, 0, 32),
+        ];
+        let wanted = [
+            (Length::Called(32), -1),
+            (Length::Called(2), -1),
+            (Length::Called(3), 16),
+            (Length::Called(33), 7),
+            (Length::Called(255), 3),
+            (Length::Called(0), 16),
+            (Length::Asleep(2), 4),
+            (Length::Asleep(32), 0),
+        ];
+        assert_eq!(ended(&run_file(&run)), wanted);
+    }
+
+    /// The files that every seed has show all that has to come.
+    #[test]
+    fn the_sweep_reaches_all() {
+        let seen: Vec<(Length, i32)> = sweep::files().iter().flat_map(|file| ended(file)).collect();
+        for (length, name, codes) in LENGTHS {
+            for &code in codes {
+                assert!(seen.contains(&(length, code)), "{name} {code} never came");
+            }
+        }
+    }
+}
