@@ -1,4 +1,4 @@
--- Laws that belong to no one function. The public ones are for those who call judge and names_of.
+-- Laws that belong to no one function. The public ones are for those who call judge and check_array.
 mod Signed
 mod Values
 mod Operations

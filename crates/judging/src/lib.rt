@@ -1,7 +1,7 @@
 // Judging an array of operations, and the tests that come before it.
 //
 // What is public is listed here. Each of these functions is total: it asks nothing of its caller, and its promise is an
-// equation with a definition of the crate model (`value_of`, `judge`, `stop_of`, `names_of`: of specs/), for every argument.
+// equation with a definition of the crate model (`value_of`, `judge`, `stop_of`: of specs/), for every argument.
 // An array is the bytes as they lie in the lent file; bytes that make no whole operation at the end are ignored, as in the
 // definition.
 mod amount;
@@ -15,12 +15,12 @@ mod walk;
 
 pub use amount::cut;
 pub use amount::is_negative;
+pub use checks::Checked;
 pub use checks::check_array;
 pub use identifier::answer;
 pub use identifier::in_range;
 pub use identifier::slot_of;
 pub use identifier::value_of;
-pub use named::names_of;
 pub use outcome::decided;
 pub use outcome::finishes;
 pub use stop::Stop;

@@ -3,18 +3,21 @@
 //
 // They read the row alone, so their promises hold whatever the adjustments are.
 ghost use mathlib.Core.Path.{_≡_};
-ghost use mathlib.Core.Bool.{not, _||_};
+ghost use mathlib.Core.Bool.{cond, not, _||_};
 ghost use mathlib.Core.List.{List};
 ghost use Prim.Native.Nat.{_%_};
 ghost use lib.Dec.{eqb, ltb};
 ghost use lib.IntN.{ℤ};
 ghost use Rattle.model.specs.Limits.{operationBytes};
+ghost use Rattle.model.specs.Operation.{operationsOf};
 ghost use Rattle.model.specs.Checks.{namesSet, freeSlot, checkCreate, checkOperate, checkNumber, checkSetValue, checkSet, checkProcess};
+ghost use Rattle.judging.specs.Named.{namedWithin};
 ghost use Rattle.host.specs.Parts.{rowIn};
 ghost use Rattle.host.specs.Holding.{setsIn, hostIn, stateIn};
 ghost use Rattle.service_queue.specs.Seated.{Seated};
 use host::HOST_BYTES;
 use host::set_at;
+use judging::Checked;
 use judging::check_array;
 use judging::in_range;
 use judging::slot_of;
@@ -82,25 +85,26 @@ pub fn check_create(host: &[u8; HOST_BYTES], count: u8) -> u8
     }
 }
 
-// Operate.
-pub fn check_operate(host: &[u8; HOST_BYTES], process: u8, identifier: i32, bytes: &[u8]) -> u8
+// Operate: the code, and the semaphores that the array names, none if it is refused.
+pub fn check_operate(host: &[u8; HOST_BYTES], process: u8, identifier: i32, bytes: &[u8]) -> Checked
     requires { ⌜ Seated (rowIn (now host)) ⌝ }
-    ensures { λ r. ⌜ ((a : List ℤ) → r ≡ checkOperate (stateIn (hostIn (now (host .entry)) a)) process identifier (now (bytes .entry))) ⌝ }
+    ensures { λ r. ⌜ ((a : List ℤ) → r .code ≡ checkOperate (stateIn (hostIn (now (host .entry)) a)) process identifier (now (bytes .entry))) ⌝ }
+    ensures { λ r. ⌜ r .names ≡ cond (eqb (r .code) 0) (namedWithin 0 (operationsOf (now (bytes .entry)))) 0 ⌝ }
 {
     if beyond(process, PROCESSES) {
-        return 3;
+        return Checked { code: 3, names: 0 };
     }
     if is_asleep(host, process) {
-        return 16;
+        return Checked { code: 16, names: 0 };
     }
     if no_array(bytes.len()) {
-        return 22;
+        return Checked { code: 22, names: 0 };
     }
     if ARRAY_BYTES < bytes.len() {
-        return 7;
+        return Checked { code: 7, names: 0 };
     }
     if !names_set(host, identifier) {
-        return 22;
+        return Checked { code: 22, names: 0 };
     }
     let set = set_at(host, slot_of(identifier));
     check_array(process, set.count, set.read, set.alter, bytes)

@@ -7,7 +7,8 @@ ghost use lib.IntN.{pos};
 ghost use lib.ListN.{length};
 ghost use Rattle.model.specs.Limits.{processes};
 ghost use Rattle.model.specs.State.{Sleeper};
-ghost use Rattle.model.specs.Marks.{mine};
+ghost use Rattle.model.specs.Operation.{operationsOf};
+ghost use Rattle.model.specs.Marks.{mine, namedBy};
 ghost use Rattle.model.specs.Waking.{without};
 ghost use Rattle.model.specs.Checks.{asleep};
 ghost use Rattle.model.specs.Events.{keep, endedWith, notOf, notMine};
@@ -16,7 +17,6 @@ ghost use Rattle.host.specs.Parts.{order, rowIn, with};
 ghost use Rattle.host.specs.Holding.{withQueue, queueIn};
 ghost use Rattle.host.specs.Queue.{Room, QueueHeld};
 ghost use Rattle.wakings.specs.Wakings.{placesIn, listOf};
-ghost use Rattle.service_table.specs.Numbered.{Numbered};
 ghost use Rattle.service_queue.specs.Seated.{Seated, positionOf, movedUp};
 use host::HOST_BYTES;
 use host::asleep_of;
@@ -28,29 +28,22 @@ use host::put_process;
 use host::size_at;
 use host::slot_at;
 use host::store_array;
-use judging::names_of;
 use model::Position;
 use model::WAKING_BYTES;
 use wakings::note;
 
-// A call joins behind the others.
-pub fn fall_asleep(host: &mut [u8; HOST_BYTES], process: u8, slot: usize, bytes: &[u8])
+// A call joins behind the others, with the mask of the semaphores that its array names.
+pub fn fall_asleep(host: &mut [u8; HOST_BYTES], process: u8, slot: usize, bytes: &[u8], names: u8)
     requires { ⌜ QueueHeld (rowIn (now host)) ⌝ }
     requires { ⌜ Room (record { process = process; slot = slot; array = now bytes }) ⌝ }
     requires { ⌜ All (λ (s : Sleeper). s .process ≢ process) (queueIn (rowIn (now host))) ⌝ }
     requires { ⌜ length (queueIn (rowIn (now host))) < processes ⌝ }
     requires { ⌜ slot < 256 ⌝ }
-    requires { ⌜ Numbered (now bytes) ⌝ }
+    requires { ⌜ names ≡ namedBy 0 (operationsOf (now bytes)) ⌝ }
     ensures { λ _. ⌜ rowIn (now (host .exit)) ≡ withQueue (rowIn (now (host .entry))) (queueIn (rowIn (now (host .entry))) ++ record { process = process; slot = slot; array = now (bytes .entry) } ∷ []) ⌝ }
 {
     store_array(&mut *host, process, bytes);
-    put_call(
-        &mut *host,
-        process,
-        slot as u8,
-        bytes.len() as u8,
-        names_of(bytes),
-    );
+    put_call(&mut *host, process, slot as u8, bytes.len() as u8, names);
     let n = asleep_of(&*host);
     put_process(&mut *host, n, process);
     put_asleep(host, (n as u8) + 1);

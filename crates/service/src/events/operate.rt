@@ -12,7 +12,6 @@ use host::HOST_BYTES;
 use host::adjustments_of;
 use host::values_of;
 use judging::judge;
-use judging::names_of;
 use judging::slot_of;
 use model::ALL_ADJUSTMENTS;
 use model::Engine;
@@ -41,9 +40,9 @@ pub fn operate(
     ensures { λ r. ⌜ afterIn (now (host .exit)) (now (adjustments .exit)) (now (wakings .exit)) r ≡ afterOf (doOperate (waker engine) (stateIn (hostIn (now (host .entry)) (now (adjustments .entry)))) process identifier (now (bytes .entry))) ⌝ }
 {
     clear(&mut *wakings);
-    let code = check_operate(&*host, process, identifier, bytes);
-    if code != 0 {
-        return quiet(code, 0);
+    let checked = check_operate(&*host, process, identifier, bytes);
+    if checked.code != 0 {
+        return quiet(checked.code, 0);
     }
     let slot = slot_of(identifier);
     let before = values_of(&*host, slot);
@@ -53,13 +52,12 @@ pub fn operate(
     let outcome = verdict.outcome;
     match outcome {
         Outcome::Done => {
-            let mask = names_of(bytes);
             apply(
                 &mut *host,
                 &mut *adjustments,
                 process,
                 slot,
-                mask,
+                checked.names,
                 values,
                 undo,
             );
@@ -67,7 +65,7 @@ pub fn operate(
             told(wake(host, adjustments, wakings, engine, slot, touched, nobody()))
         }
         Outcome::Sleep => {
-            fall_asleep(host, process, slot, bytes);
+            fall_asleep(host, process, slot, bytes, checked.names);
             not_done(-1, outcome, verdict.position)
         }
         Outcome::Again => not_done(11, outcome, verdict.position),

@@ -1,6 +1,6 @@
 -- `service_checks::check_operate` meets its contract: each check is the definition's, and those before it do not apply.
 use Prim.Native.Nat.{_%_}
-use mathlib.Core.Path.{_≡_, sym, _∙_}
+use mathlib.Core.Path.{_≡_, refl, sym, _∙_}
 use mathlib.Core.Bool.{false, not, _||_}
 use lib.Dec.{eqb, ltb}
 use lib.ListN.{length, getD}
@@ -33,15 +33,15 @@ beyond-requires c κs = search needs
 
 returns : tie.Need-returns
 unfolding checkOperate
-returns c a = rw (process-found (c .before) ∙ c .if1 .taken)
+returns c = (λ a. rw (process-found (c .before) ∙ c .if1 .taken), refl)
 
 is-asleep-requires : tie.Need-is-asleep-requires
 is-asleep-requires c κs = search needs
 
 returns-2 : tie.Need-returns-2
 unfolding checkOperate
-returns-2 c a =
-    rw (process-found (c .before .before .before) ∙ c .before .before .if1 .left, asleep-found (c .before) ∙ c .if2 .taken)
+returns-2 c =
+    (λ a. rw (process-found (c .before .before .before) ∙ c .before .before .if1 .left, asleep-found (c .before) ∙ c .if2 .taken), refl)
 
 no-array-requires : tie.Need-no-array-requires
 no-array-requires c κs = search needs
@@ -53,15 +53,15 @@ called c = (process-found (c .before .before .before) ∙ c .before .before .if1
 
 returns-3 : tie.Need-returns-3
 unfolding checkOperate
-returns-3 c a =
+returns-3 c =
     let d = called (c .before .before) in
-    rw (d .0, d .1, sym (c .before .no-array .ensures) ∙ c .if3 .taken)
+    (λ a. rw (d .0, d .1, sym (c .before .no-array .ensures) ∙ c .if3 .taken), refl)
 
 returns-4 : tie.Need-returns-4
 unfolding checkOperate
-returns-4 c a =
+returns-4 c =
     let d = called (c .before .before .before) in
-    rw (d .0, d .1, sym (c .before .before .no-array .ensures) ∙ c .before .if3 .left, lt-ltb arrayBytes _ (c .if4 .taken))
+    (λ a. rw (d .0, d .1, sym (c .before .before .no-array .ensures) ∙ c .before .if3 .left, lt-ltb arrayBytes _ (c .if4 .taken)), refl)
 
 -- .. with an array that is not too long
 arrayed : (c : tie.Else4)
@@ -77,9 +77,9 @@ names-set-requires c κs = search needs
 
 returns-5 : tie.Need-returns-5
 unfolding checkOperate
-returns-5 c a =
+returns-5 c =
     let d = arrayed (c .before .before) in
-    rw (d .0, d .1, d .2, d .3, names (c .before) ∙ not-true _ (c .if5 .taken))
+    (λ a. rw (d .0, d .1, d .2, d .3, names (c .before) ∙ not-true _ (c .if5 .taken)), refl)
 
 slot-of-requires : tie.Need-slot-of-requires
 slot-of-requires c κs = search needs
@@ -100,11 +100,12 @@ set-is c =
 
 returns-6 : tie.Need-returns-6
 unfolding checkOperate
-returns-6 c a =
+returns-6 c =
     let n = c .before .before .before in
-    let d = arrayed (n .before .before) in
-    rw (d .0, d .1, d .2, d .3, names (n .before) ∙ not-false _ (n .if5 .left), set-is (c .before))
-    (c .check-array .ensures (c .before .set-at .result .generation))
+    let d = arrayed (n .before .before) in (
+      λ a. rw (d .0, d .1, d .2, d .3, names (n .before) ∙ not-false _ (n .if5 .left), set-is (c .before)) (c .check-array .ensures .0 (c .before .set-at .result .generation)),
+      c .check-array .ensures .1,
+    )
 
 pub check-operate-spec : {M : Type 1} → statement M
 check-operate-spec =

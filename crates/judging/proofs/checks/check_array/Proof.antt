@@ -1,17 +1,22 @@
--- The invariant: the code of the operations from here is that of all. What the process may is found before the loop, with its
--- bit's remainder, which a mask of eight bits sees alike (proofs/Masks.antt).
+-- The invariant: the code of the operations from here is that of all, and the mask with the bits of those from here that of
+-- all. What the process may is found before the loop, with its bit's remainder, which a mask of eight bits sees alike
+-- (proofs/Masks.antt).
 use borrow.Author.Needs.{needs}
 use borrow.Author.Tests.{le-leb, lt-leb}
-use mathlib.Core.Path.{_≡_, _∙_}
-use mathlib.Core.Bool.{true, false, cond}
+use mathlib.Core.Path.{_≡_, refl, sym, ap, _∙_}
+use mathlib.Core.Bool.{Bool, true, false, cond, _&&_}
+use mathlib.Core.Logic.{⊎-elim}
 use native.Mathlib.Omega.{arith}
-use Prim.Native.Nat.{ℕ, _-_, _≤_}
+use Prim.Native.Nat.{ℕ, _+_, _-_, _≤_}
+use lib.Bits.{bitOr}
 use mir.Syntax.{w16}
 use mir.Facts.{toZ-ofZ}
 use Rattle.model.specs.declared.Set.{Set}
 use Rattle.model.specs.Operation.{operationsOf, hasBit, isZero}
 use Rattle.model.specs.Marks.{bitOf}
+use Rattle.judging.specs.Named.{namedWithin}
 use Rattle.judging.proofs.Operations.{rest, all}
+use Rattle.judging.proofs.NamedLaws.{more, done}
 use Rattle.judging.proofs.Refusals as law
 use Rattle.judging.proofs.checks.check_array.Statement.{statement}
 use Rattle.judging.proofs.checks.check_array.Tie as tie
@@ -20,12 +25,13 @@ abbrev setOf : ℕ → ℕ → ℕ → ℕ → Set
 setOf generation count read alter = record { generation = generation; count = count; read = read; alter = alter }
 
 abbrev Inv-loop : tie.InvT-loop
-Inv-loop process count read alter bytes bit reads alters past operations allowed₀ i₀ allowed i =
+Inv-loop process count read alter bytes bit reads alters both past operations allowed₀ names₀ i₀ allowed names i =
     (i ≤ operations)
     × ((generation : ℕ) → law.refusal process (setOf generation count read alter) allowed (rest bytes i) ≡ law.refusal process (setOf generation count read alter) true (operationsOf bytes))
+    × (namedWithin names (rest bytes i) ≡ namedWithin 0 (operationsOf bytes))
 
 abbrev μ-loop : tie.MeasureT-loop
-μ-loop process count read alter bytes bit reads alters past operations allowed₀ i₀ allowed i = operations - i
+μ-loop process count read alter bytes bit reads alters both past operations allowed₀ names₀ i₀ allowed names i = operations - i
 
 bit-of-requires : tie.Need-bit-of-requires Inv-loop μ-loop
 bit-of-requires c κs = search needs
@@ -37,7 +43,7 @@ has-bit-requires-2 : tie.Need-has-bit-requires-2 Inv-loop μ-loop
 has-bit-requires-2 c κs = search needs
 
 loop-holds : tie.Need-loop-holds Inv-loop μ-loop
-loop-holds c = (search needs, λ g. rw all)
+loop-holds c = (search needs, λ g. rw all, rw all)
 
 mul-operation-at : tie.Need-mul-operation-at Inv-loop μ-loop
 mul-operation-at c = omega arith
@@ -56,10 +62,13 @@ abbrev set-at : Loop → ℕ → Set
 set-at c generation = setOf generation (start c .args .count) (start c .args .read) (start c .args .alter)
 
 returns : tie.Need-returns Inv-loop μ-loop
-returns c g =
+returns c =
     let r = c .before .before in
     let l = r .before .before in
-    law.high (start l .args .process) (set-at l g) _ (l .loop .i) (l .loop .allowed) (r .operation-at .result) (r .before .loop-test .taken) (r .operation-at .ensures) (le-leb _ _ (c .if1 .taken)) ∙ l .loop .inv .1 g
+    (λ g. law.high (start l .args .process) (set-at l g) _ (l .loop .i) (l .loop .allowed) (r .operation-at .result) (r .before .loop-test .taken) (r .operation-at .ensures) (le-leb _ _ (c .if1 .taken)) ∙ l .loop .inv .1 g, refl)
+
+number-bit-requires : tie.Need-number-bit-requires Inv-loop μ-loop
+number-bit-requires c κs = search needs
 
 may-requires : tie.Need-may-requires Inv-loop μ-loop
 may-requires c κs = search needs
@@ -71,35 +80,72 @@ loop-less : tie.Need-loop-less Inv-loop μ-loop
 loop-less c = search needs
 
 abbrev Turn : Type 0
-Turn = tie.After-may Inv-loop μ-loop
+Turn = tie.After-number-bit Inv-loop μ-loop
 
--- where the operation was read, and where the bit of the process was found
+-- where the operation was read
 abbrev read : Turn → tie.After-operation-at Inv-loop μ-loop
-read c = c .before .before .before .before
+read c = c .before .before .before
+
+-- the operation's amount is 0
+abbrev zero : Turn → Bool
+zero c = isZero (read c .operation-at .result .amount)
 
 -- what the process may is what the definition asks
-may-is : (c : Turn) → let a = start (read c .before .before) .args in c .may .result ≡ hasBit (cond (isZero (read c .operation-at .result .amount)) (a .read) (a .alter)) (bitOf (a .process))
+abbrev Asked : Turn → Bool → Type 0
+Asked c may = let a = start (read c .before .before) .args in may ≡ hasBit (cond (isZero (read c .operation-at .result .amount)) (a .read) (a .alter)) (bitOf (a .process))
+
+may-is : (c : tie.After-may Inv-loop μ-loop) → Asked (c .before .before .before) (c .may .result)
 may-is c =
-    let b = read c .before .before .before in
-    let s = start (read c .before .before) in
-    let e = toZ-ofZ {w = w16} {z = read c .operation-at .result .amount} (record { sfits = c .before .struct-told .given .1 .0 .1 }) in
-    law.may-is (s .args .process) (s .args .read) (s .args .alter) _ _ _ (s .fits .read .fits) (s .fits .alter .fits) (b .before .before .bit-of .ensures) (b .before .has-bit .ensures) (b .has-bit2 .ensures) (isZero (read c .operation-at .result .amount)) _ (rw e at (c .may .ensures))
+    let t = c .before .before .before in
+    let b = read t .before .before .before in
+    let s = start (read t .before .before) in
+    let e = toZ-ofZ {w = w16} {z = read t .operation-at .result .amount} (record { sfits = c .before .struct-told .given .1 .0 .1 }) in
+    law.may-is (s .args .process) (s .args .read) (s .args .alter) _ _ _ (s .fits .read .fits) (s .fits .alter .fits) (b .before .before .bit-of .ensures) (b .before .has-bit .ensures) (b .has-bit2 .ensures) (zero t) _ (rw e at (c .may .ensures))
+
+both-is : (c : tie.Else2 Inv-loop μ-loop) → Asked (c .before) true
+both-is c =
+    let t = c .before in
+    let b = read t .before .before .before in
+    let s = start (read t .before .before) in
+    law.both-is (s .args .process) (s .args .read) (s .args .alter) _ _ _ (s .fits .read .fits) (s .fits .alter .fits) (b .before .before .bit-of .ensures) (b .before .has-bit .ensures) (b .has-bit2 .ensures) (zero t) (c .if2 .left)
+
+-- one operation more is allowed or not
+abbrev Going : Turn → Bool → Type 0
+Going c allowed =
+    let l = read c .before .before in
+    (generation : ℕ) → law.refusal (start l .args .process) (set-at l generation) allowed (rest (start l .args .bytes .now) (l .loop .i + 1)) ≡ law.refusal (start l .args .process) (set-at l generation) true (operationsOf (start l .args .bytes .now))
+
+goes : (c : Turn) (may : Bool) → Asked c may → Going c (read c .before .before .loop .allowed && may)
+goes c may e g =
+    let r = read c in
+    let l = r .before .before in
+    law.on (start l .args .process) (set-at l g) _ (l .loop .i) (l .loop .allowed) (r .operation-at .result) (r .before .loop-test .taken) (r .operation-at .ensures) (lt-leb _ _ (c .before .if1 .left)) may e ∙ l .loop .inv .1 g
 
 loop-again : tie.Need-loop-again Inv-loop μ-loop
 loop-again c =
-    let r = read c in
-    let l = r .before .before in
-    (search needs, λ g. law.on (start l .args .process) (set-at l g) _ (l .loop .i) (l .loop .allowed) (r .operation-at .result) (r .before .loop-test .taken) (r .operation-at .ensures) (lt-leb _ _ (c .before .before .if1 .left)) _ (may-is c) ∙ l .loop .inv .1 g)
+    let t = c .before in
+    let r = read t in
+    let l = r .before .before in (
+      search needs,
+      ⊎-elim
+          (λ v. rw (v .3) (goes t _ (may-is (record { before = record { before = record { before = t; if2 = v .0 }; struct-told = v .1 }; may = v .2 }))))
+          (λ v. rw (v .1 ∙ sym (law.and-true (l .loop .allowed))) (goes t true (both-is (record { before = t; if2 = v .0 }))))
+          (c .if2 .came),
+      ap (λ (b : ℕ). namedWithin (bitOr (l .loop .names) b) (rest (start l .args .bytes .now) (l .loop .i + 1))) (t .number-bit .ensures)
+          ∙ more _ (l .loop .names) (l .loop .i) (r .operation-at .result) (r .before .loop-test .taken) (r .operation-at .ensures) ∙ l .loop .inv .2,
+    )
 
 returns-2 : tie.Need-returns-2 Inv-loop μ-loop
-returns-2 c g =
-    let l = c .before .before in
-    law.end (start l .args .process) (set-at l g) (start l .args .bytes .now) (l .loop .i) (l .loop .allowed) (omega arith) true (c .if2 .taken) ∙ l .loop .inv .1 g
+returns-2 c =
+    let l = c .before .before in (
+      λ g. law.end (start l .args .process) (set-at l g) (start l .args .bytes .now) (l .loop .i) (l .loop .allowed) (omega arith) true (c .if3 .taken) ∙ l .loop .inv .1 g,
+      sym (done _ (l .loop .names) (l .loop .i) (omega arith)) ∙ l .loop .inv .2,
+    )
 
 returns-3 : tie.Need-returns-3 Inv-loop μ-loop
-returns-3 c g =
+returns-3 c =
     let l = c .before .before in
-    law.end (start l .args .process) (set-at l g) (start l .args .bytes .now) (l .loop .i) (l .loop .allowed) (omega arith) false (c .if2 .left) ∙ l .loop .inv .1 g
+    (λ g. law.end (start l .args .process) (set-at l g) (start l .args .bytes .now) (l .loop .i) (l .loop .allowed) (omega arith) false (c .if3 .left) ∙ l .loop .inv .1 g, refl)
 
 pub check-array-spec : {M : Type 1} → statement M
 check-array-spec =
@@ -114,6 +160,7 @@ check-array-spec =
     mul-operation-at
     operation-at-requires
     returns
+    number-bit-requires
     may-requires
     add-i
     loop-less

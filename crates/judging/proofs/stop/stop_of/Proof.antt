@@ -117,14 +117,15 @@ loop-again : tie.Need-loop-again Inv-loop μ-loop
 loop-again c =
     let v = c .before in
     let o = read v in
-    let l = o .before .before .loop in
-    (search needs,
-    ⊎-elim
-    (λ w. rw (w .2) (zero-on _ (l .i) (o .operation-at .result) (l .values) (o .before .loop-test .taken) (o .operation-at .ensures) refl (zero (record { before = v; if1 = w .0 })) (w .1 .left)) ∙ l .inv .1)
-    (λ w.
-    let m : tie.After-moved Inv-loop μ-loop = record { before = record { before = v; if1 = w .0 }; moved = w .1 } in
-    rw (w .5, w .4 .ensures, new-is m) (goes-on _ (l .i) (o .operation-at .result) (l .values) (o .before .loop-test .taken) (o .operation-at .ensures) refl (leads m) (ap not (sym (in-range-is (record { before = m; in-range = w .2 }))) ∙ w .3 .left)) ∙ l .inv .1)
-    (c .if1 .came))
+    let l = o .before .before .loop in (
+      search needs,
+      ⊎-elim
+          (λ w. rw (w .2) (zero-on _ (l .i) (o .operation-at .result) (l .values) (o .before .loop-test .taken) (o .operation-at .ensures) refl (zero (record { before = v; if1 = w .0 })) (w .1 .left)) ∙ l .inv .1)
+          (λ w.
+          let m : tie.After-moved Inv-loop μ-loop = record { before = record { before = v; if1 = w .0 }; moved = w .1 } in
+          rw (w .5, w .4 .ensures, new-is m) (goes-on _ (l .i) (o .operation-at .result) (l .values) (o .before .loop-test .taken) (o .operation-at .ensures) refl (leads m) (ap not (sym (in-range-is (record { before = m; in-range = w .2 }))) ∙ w .3 .left)) ∙ l .inv .1)
+          (c .if1 .came),
+    )
 
 returns-3 : tie.Need-returns-3 Inv-loop μ-loop
 returns-3 c = tells (stops-nowhere _ _ (c .before .loop .i) (omega arith) ∙ c .before .loop .inv .1)

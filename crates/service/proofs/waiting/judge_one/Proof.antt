@@ -22,9 +22,10 @@ stop-of-requires c κs = search needs
 returns : tie.Need-returns
 returns c =
     let s = c .before .before .before .before .before in
-    let e = ap (λ (l : List ℕ). stopFrom (operationsOf l) (s .args .values)) (c .before .room-of .ensures) in
-    (c .stop-of .ensures .0 ∙ ap (λ (y : Stopped). y .operation .number % semaphores) e,
-    (c .stop-of .ensures .1 .0 ∙ ap (λ (y : Stopped). y .operation .amount) e, ap (bitOr (s .args .judged .now)) (c .before .before .before .bit-of .ensures)))
+    let e = ap (λ (l : List ℕ). stopFrom (operationsOf l) (s .args .values)) (c .before .room-of .ensures) in (
+      c .stop-of .ensures .0 ∙ ap (λ (y : Stopped). y .operation .number % semaphores) e,
+      (c .stop-of .ensures .1 .0 ∙ ap (λ (y : Stopped). y .operation .amount) e, ap (bitOr (s .args .judged .now)) (c .before .before .before .bit-of .ensures)),
+    )
 
 pub judge-one-spec : {M : Type 1} → statement M
 judge-one-spec = tie.close (tie.spec bit-of-requires room-of-requires stop-of-requires returns)
