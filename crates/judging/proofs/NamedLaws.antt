@@ -1,8 +1,8 @@
 -- The mask of named semaphores: the model's, where no number is too high; and the loop that gathers it.
 use Prim.Native.Nat.{ℕ, _+_, _*_, _/_, _^_, _<_}
+use native.Mathlib.Nat.{mod-eq-of-lt}
 use mathlib.Core.Path.{_≡_, refl}
 use mathlib.Core.List.{List, [], _∷_}
-use borrow.Author.Tests.{lt-ltb}
 use lib.Bits.{bitOr}
 use lib.ListN.{length}
 use Rattle.model.specs.declared.Operation.{Operation}
@@ -17,7 +17,7 @@ use Rattle.judging.proofs.Operations.{rest, first, none}
 pub named-within : (m : ℕ) (os : List Operation) → All (λ (o : Operation). o .number < semaphores) os → namedWithin m os ≡ namedBy m os
 unfolding namedWithin namedBy
 named-within m [] h = refl
-named-within m (o ∷ os) h = rw (lt-ltb (o .number) semaphores (all.first h)) (named-within (bitOr m (2 ^ (o .number))) os (all.rest h))
+named-within m (o ∷ os) h = rw (mod-eq-of-lt (all.first h)) (named-within (bitOr m (2 ^ (o .number))) os (all.rest h))
 
 -- ---- the loop's turns: o is the i-th operation of the bytes
 

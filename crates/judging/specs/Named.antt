@@ -1,14 +1,12 @@
--- The mask of the semaphores that operations name: a bit for each number of a set. A number too high for a set has no bit.
-use Prim.Native.Nat.{ℕ, _^_}
-use mathlib.Core.Bool.{cond}
+-- The mask of the semaphores that operations name: a bit for each number of a set. A number is taken within a set.
+use Prim.Native.Nat.{ℕ, _%_, _^_}
 use mathlib.Core.List.{List, [], _∷_}
 use lib.Bits.{bitOr}
-use lib.Dec.{ltb}
 use Rattle.model.specs.declared.Operation.{Operation}
 use Rattle.model.specs.Limits.{semaphores}
 
 abbrev pub numberBit : ℕ → ℕ
-numberBit n = cond (ltb n semaphores) (2 ^ n) 0
+numberBit n = 2 ^ (n % semaphores)
 
 -- the mask m, and in it the bits of the operations: `namedBy` of the model, if every number is one of a set
 -- (proofs/NamedLaws.antt)

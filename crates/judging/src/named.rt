@@ -1,4 +1,4 @@
-// The bit of a semaphore in a mask with one for each number of a set. A number too high for a set has no bit.
+// The bit of a semaphore in a mask with one for each number of a set. A number is taken within a set.
 ghost use mathlib.Core.Path.{_≡_};
 ghost use Rattle.judging.specs.Named.{numberBit};
 use model::SEMAPHORES;
@@ -6,9 +6,5 @@ use model::SEMAPHORES;
 pub fn number_bit(number: u16) -> u8
     ensures { λ r. ⌜ r ≡ numberBit number ⌝ }
 {
-    if (number as usize) < SEMAPHORES {
-        1u8 << number
-    } else {
-        0
-    }
+    1u8 << (number % (SEMAPHORES as u16))
 }

@@ -1,6 +1,8 @@
--- By the test of the number.
+-- The remainder is below eight.
+use Prim.Native.Nat.{_%_}
+use native.Mathlib.Omega.{arith}
 use borrow.Author.Needs.{needs}
-use borrow.Author.Tests.{lt-ltb, le-ltb}
+use Rattle.model.specs.Limits.{semaphores}
 use Rattle.judging.proofs.Masks.{shifted}
 use Rattle.judging.proofs.named.number_bit.Statement.{statement}
 use Rattle.judging.proofs.named.number_bit.Tie as tie
@@ -8,14 +10,17 @@ use Rattle.judging.proofs.named.number_bit.Tie as tie
 cast-result : tie.Need-cast-result
 cast-result c = search needs
 
+rem-result : tie.Need-rem-result
+rem-result c = search needs
+
+cast-result-2 : tie.Need-cast-result-2
+cast-result-2 c = search needs
+
 shl-result : tie.Need-shl-result
 shl-result c = search needs
 
 returns : tie.Need-returns
-returns c = rw (shifted (c .before .args .number) (c .if1 .taken), lt-ltb _ _ (c .if1 .taken))
-
-returns-2 : tie.Need-returns-2
-returns-2 c = rw (le-ltb _ _ (c .if1 .left))
+returns c = rw (shifted (c .args .number % semaphores) (omega arith))
 
 pub number-bit-spec : {M : Type 1} → statement M
-number-bit-spec = tie.close (tie.spec cast-result shl-result returns returns-2)
+number-bit-spec = tie.close (tie.spec cast-result rem-result cast-result-2 shl-result returns)
