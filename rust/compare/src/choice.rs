@@ -1,7 +1,7 @@
 //! Single events, chosen with an eye on what is there.
 
 use second::event::{self, Body, Operation};
-use second::{NOWAIT, UNDO};
+use second::{NOWAIT, OPERATIONS, UNDO};
 
 use crate::events::EVENTS;
 use crate::random::Rng;
@@ -165,7 +165,8 @@ pub fn refusal(scene: &mut Scene) -> Body {
     let outside = rng.pick(&[0, 9, 10, 128, 255]);
     let beyond = target.values.len() as u16 + rng.pick(&[0, 0, 1, 8, 248, 256, 65_000]);
     let too_many = vec![operation(rng, &target); rng.pick(&[33, 33, 34, 64])];
-    let mut array = operations(rng, &target, 7);
+    let most = rng.pick(&[7, 7, 7, OPERATIONS - 1]);
+    let mut array = operations(rng, &target, most);
     match rng.below(17) {
         0 => event::create(rng.pick(&[0, 9, 255]), 0xFF, 0xFF),
         1 => event::create(rng.between(1, 8) as u8, rng.byte(), rng.byte()),
@@ -174,7 +175,6 @@ pub fn refusal(scene: &mut Scene) -> Body {
         4 => event::operate(process, rng.pick(&[target.identifier, stranger]), &too_many),
         5 | 6 => {
             array.insert(rng.below(array.len() + 1), (beyond, amount(rng, 0), flags(rng)));
-            array.truncate(8);
             event::operate(caller, rng.pick(&[target.identifier, stranger]), &array)
         }
         7 | 8 => {

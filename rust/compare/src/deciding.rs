@@ -42,10 +42,11 @@ pub fn deciding(scene: &mut Scene) {
     let change = narrow(to - from);
     scene.push(event::operate(holder, id, &[(number, change, 0), (number, -change, UNDO)]));
     scene.push(event::operate(sleeper, id, &array));
-    let end = match scene.rng.below(3) {
-        0 => event::set_value(id, number, to),
-        1 => event::operate(holder, id, &[(number, change, 0)]),
-        _ => event::exit(holder),
+    // A set value would clear what the sleeper holds.
+    let end = match scene.rng.below(if taken > 0 { 2 } else { 3 }) {
+        0 => event::operate(holder, id, &[(number, change, 0)]),
+        1 => event::exit(holder),
+        _ => event::set_value(id, number, to),
     };
     scene.push(end);
     scene.push(event::operate(sleeper, id, &array));
@@ -63,20 +64,22 @@ fn plan(rng: &mut Rng, numbers: &[u16]) -> Plan {
     let waits = (b, -1, 0);
     match rng.below(3) {
         0 => {
-            let at = rng.below(LAST);
-            let array = placed(idle, &[(at, fails), (at + 1 + rng.below(LAST - at), waits)]);
+            let at = position(rng, 0, LAST - 1);
+            // Close behind, so that the array is short.
+            let behind = at + 1 + rng.below((LAST - at).min(4));
+            let array = placed(idle, &[(at, fails), (behind, waits)]);
             let values = vec![(a, good), (b, 0)];
             Plan { values, taken: 0, array, number: a, from: good, to: bad }
         }
         1 => {
-            let at = 1 + rng.below(LAST);
+            let at = position(rng, 1, LAST);
             let array = placed(idle, &[(rng.below(at), waits), (at, fails)]);
             let values = vec![(a, bad), (b, 0)];
             Plan { values, taken: 0, array, number: b, from: 0, to: 1 }
         }
         // The sleeper holds all that an adjustment can be, and takes more.
         _ => {
-            let array = placed(idle, &[(rng.below(LAST + 1), (a, narrow(-step), UNDO))]);
+            let array = placed(idle, &[(position(rng, 0, LAST), (a, narrow(-step), UNDO))]);
             Plan { values: vec![(a, MAX)], taken: MAX, array, number: a, from: 0, to: step }
         }
     }
@@ -90,4 +93,13 @@ fn placed(idle: Operation, operations: &[(usize, Operation)]) -> Vec<Operation> 
         array[position] = operation;
     }
     array
+}
+
+/// A position from `low` to `high`, more often an edge: of all operations, or of eight, the number
+/// of semaphores and of processes.
+fn position(rng: &mut Rng, low: usize, high: usize) -> usize {
+    match rng.below(5) {
+        0 => rng.pick(&[0, 7, 8, LAST]).clamp(low, high),
+        _ => low + rng.below(high - low + 1),
+    }
 }

@@ -48,14 +48,8 @@ impl Lengths {
 mod tests {
     use super::*;
     use crate::line::followed;
-    use crate::sweep;
     use second::event::{create, operate, set_value, signal};
     use second::run_file;
-
-    fn ended(file: &[u8]) -> Vec<(Length, i32)> {
-        let mut lengths = Lengths::default();
-        followed(file, |event, line| lengths.follow(event, line)).concat()
-    }
 
     #[test]
     fn called_and_woken() {
@@ -82,17 +76,8 @@ mod tests {
             (Length::Asleep(2), 4),
             (Length::Asleep(32), 0),
         ];
-        assert_eq!(ended(&run_file(&run)), wanted);
-    }
-
-    /// The files that every seed has show all that has to come.
-    #[test]
-    fn the_sweep_reaches_all() {
-        let seen: Vec<(Length, i32)> = sweep::files().iter().flat_map(|file| ended(file)).collect();
-        for (length, name, codes) in LENGTHS {
-            for &code in codes {
-                assert!(seen.contains(&(length, code)), "{name} {code} never came");
-            }
-        }
+        let mut lengths = Lengths::default();
+        let ended = followed(&run_file(&run), |event, line| lengths.follow(event, line));
+        assert_eq!(ended.concat(), wanted);
     }
 }

@@ -47,6 +47,19 @@ impl Line {
     }
 }
 
+/// What is told of the events of a file, one after the other, by the lines of the second program.
+#[cfg(test)]
+pub fn followed<'a, T>(
+    file: &'a [u8],
+    mut follow: impl FnMut(second::Event<'a>, &Line) -> T,
+) -> Vec<T> {
+    let text = String::from_utf8(second::replay(file, second::Rule::Quick)).expect("a text");
+    let run = second::RunFile::read(file).expect("a good file");
+    let read = |line| Line::read(line).expect("the form of a line");
+    let all = run.events().zip(text.lines().skip(1));
+    all.map(|(event, line)| follow(event, &read(line))).collect()
+}
+
 #[cfg(test)]
 mod tests {
     use super::*;
@@ -57,9 +70,9 @@ mod tests {
 
     #[test]
     fn with_and_without_positions() {
-        let wakings = vec![(3, code(11, Some(1))), (8, code(0, None)), (2, code(34, Some(7)))];
+        let wakings = vec![(3, code(11, Some(1))), (8, code(0, None)), (2, code(34, Some(31)))];
         let done = Line { code: code(0, None), numbers: vec![0, 5], wakings };
-        assert_eq!(Line::read("17 0 0 5 3=11@1 8=0 2=34@7"), Some(done));
+        assert_eq!(Line::read("17 0 0 5 3=11@1 8=0 2=34@31"), Some(done));
         let asleep = Line { code: code(-1, Some(0)), numbers: vec![0, 0], wakings: vec![] };
         assert_eq!(Line::read("1 -1@0 0 0"), Some(asleep));
         let shown = Line { code: code(0, None), numbers: vec![9, 8, 1, 2], wakings: vec![] };

@@ -38,7 +38,10 @@ fn operate(scene: &mut Scene) -> Body {
     let target = scene.open_set(4);
     let caller = scene.caller();
     let rng = &mut scene.rng;
-    let length = FEW + rng.below(OPERATIONS - FEW + 1);
+    let length = match rng.below(4) {
+        0 => OPERATIONS,
+        _ => FEW + rng.below(OPERATIONS - FEW + 1),
+    };
     let decides = match rng.below(4) {
         0 => rng.below(length),
         1 => length - 1,

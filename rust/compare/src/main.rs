@@ -10,6 +10,7 @@ mod end;
 mod events;
 mod faults;
 mod kind;
+mod lengths;
 mod line;
 mod long;
 mod medley;

@@ -85,21 +85,14 @@ fn by_adjustment(code: Code, operations: &[u8]) -> Option<(Decision, u8)> {
 #[cfg(test)]
 mod tests {
     use super::*;
-    use crate::deciding::deciding;
-    use crate::random::Rng;
-    use crate::scene::Scene;
+    use crate::line::followed;
     use second::event::{create, operate, set_value, signal, Body};
-    use second::{replay, run_file, Rule, RunFile, FILE_MAX, NOWAIT, UNDO};
+    use second::{run_file, NOWAIT, UNDO};
 
     /// What the events of a run show.
     fn decided(bodies: &[Body]) -> Vec<(Decision, u8)> {
-        let file = run_file(bodies);
-        let text = String::from_utf8(replay(&file, Rule::Quick)).expect("a text");
-        let run = RunFile::read(&file).expect("a good file");
         let mut positions = Positions::default();
-        let read = |line| Line::read(line).expect("the form of a line");
-        let all = run.events().zip(text.lines().skip(1));
-        all.flat_map(|(event, line)| positions.follow(event, &read(line))).collect()
+        followed(&run_file(bodies), |event, line| positions.follow(event, line)).concat()
     }
 
     #[test]
@@ -160,16 +153,5 @@ mod tests {
             (Decision::Adjustment, 0),
         ];
         assert_eq!(decided(&run), wanted);
-    }
-
-    /// A full file of the kind that is made for it shows all that has to come.
-    #[test]
-    fn deciding_reaches_all() {
-        let seen = decided(&Scene::played(deciding, Rng::new(3, 0), FILE_MAX));
-        for (decision, name, positions) in DECISIONS {
-            for at in positions {
-                assert!(seen.contains(&(decision, at)), "{name} {at} never came");
-            }
-        }
     }
 }

@@ -1,10 +1,15 @@
-//! Small files in full: every cut of the whole example, every changed bit of its table, every
-//! unknown kind, and every length of each kind.
+//! Files that every seed has. Small ones in full: every cut of the whole example, every changed bit
+//! of its table, every unknown kind, and every length of each kind. And a few largest ones: long
+//! arrays, and any operation that decides.
 
 use second::event::{operate, Body};
-use second::run_file;
+use second::{run_file, FILE_MAX};
 
+use crate::deciding::deciding;
 use crate::events::UNKNOWN;
+use crate::long::long;
+use crate::random::Rng;
+use crate::scene::Scene;
 
 /// The whole example of 44 bytes: create, an operate that sleeps, one that wakes it.
 const EXAMPLE: [u8; 44] = [
@@ -22,6 +27,7 @@ pub fn files() -> Vec<Vec<u8>> {
     files.extend(changed_tables());
     files.extend(sums_that_go_round());
     files.extend(kinds_and_lengths().into_iter().map(|body| run_file(&[body])));
+    files.extend(arrays());
     files
 }
 
@@ -70,4 +76,11 @@ fn kinds_and_lengths() -> Vec<Body> {
     }
     bodies.extend([0].into_iter().chain(UNKNOWN..=255).map(|kind| vec![kind, 1]));
     bodies
+}
+
+/// Enough of them to show every decision and length that has to come.
+fn arrays() -> impl Iterator<Item = Vec<u8>> {
+    let scripts = [long, deciding, deciding, deciding, deciding];
+    let full = |(script, file)| run_file(&Scene::played(script, Rng::new(0, file), FILE_MAX));
+    scripts.into_iter().zip(0..).map(full)
 }

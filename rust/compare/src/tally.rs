@@ -7,6 +7,7 @@ use second::RunFile;
 
 use crate::check::{Difference, Texts};
 use crate::events::{self, EventKind, EVENTS};
+use crate::lengths::{Length, Lengths, LENGTHS};
 use crate::line::Line;
 use crate::positions::{Decision, Positions, DECISIONS};
 use crate::zeros::{When, Zeros, WHENS};
@@ -32,6 +33,8 @@ pub struct Tally {
     plain_looks: Counts<i32>,
     /// What was decided, and at which operation.
     decided: Counts<(Decision, u8)>,
+    /// How arrays ended, by their lengths.
+    lengths: Counts<(Length, i32)>,
     /// Queries that show a last process set by an amount of 0.
     by_zero: Counts<When>,
 }
@@ -55,16 +58,14 @@ impl Tally {
             *self.bad.entry(code).or_default() += 1;
         } else if let Ok(run) = RunFile::read(file) {
             let (mut zeros, mut positions) = (Zeros::default(), Positions::default());
+            let mut lengths = Lengths::default();
             for ((body, event), (quick, plain)) in run.bodies().zip(run.events()).zip(lines) {
                 let quick = Line::read(quick).ok_or_else(|| no_line(quick))?;
                 let plain = Line::read(plain).ok_or_else(|| no_line(plain))?;
                 self.add_line(events::place(body), &quick, &plain);
-                for decision in positions.follow(event, &quick) {
-                    *self.decided.entry(decision).or_default() += 1;
-                }
-                if let Some(when) = zeros.follow(event, &quick) {
-                    *self.by_zero.entry(when).or_default() += 1;
-                }
+                count_each(&mut self.decided, positions.follow(event, &quick));
+                count_each(&mut self.lengths, lengths.follow(event, &quick));
+                count_each(&mut self.by_zero, zeros.follow(event, &quick));
             }
         }
         Ok(())
@@ -96,6 +97,7 @@ impl Tally {
         add_all(&mut self.quick_looks, other.quick_looks);
         add_all(&mut self.plain_looks, other.plain_looks);
         add_all(&mut self.decided, other.decided);
+        add_all(&mut self.lengths, other.lengths);
         add_all(&mut self.by_zero, other.by_zero);
     }
 
@@ -123,6 +125,9 @@ impl Tally {
         for (decision, name, _) in DECISIONS {
             row(name, entries(of(&self.decided, decision)));
         }
+        for (length, name, _) in LENGTHS {
+            row(name, entries(of(&self.lengths, length)));
+        }
         row("looks, quick rule", entries(self.quick_looks.iter()));
         row("looks, plain rule", entries(self.plain_looks.iter()));
         let count = |when| self.by_zero.get(&when).copied().unwrap_or(0);
@@ -134,19 +139,8 @@ impl Tally {
 
     /// What the rules know and no file showed.
     pub fn missing(&self) -> Vec<String> {
-        let mut missing = Vec::new();
-        for (index, EventKind { name, codes, wakings, .. }) in EVENTS.iter().enumerate() {
-            let lacking =
-                |counts: &Counts<(usize, i32)>, code: &i32| !counts.contains_key(&(index, *code));
-            let codes = codes.iter().filter(|code| lacking(&self.codes, code));
-            missing.extend(codes.map(|code| format!("{name} with code {code}")));
-            let wakings = wakings.iter().filter(|code| lacking(&self.wakings, code));
-            missing.extend(wakings.map(|code| format!("a waking with {code} by {name}")));
-        }
-        for (decision, name, positions) in DECISIONS {
-            let lacking = positions.filter(|at| !self.decided.contains_key(&(decision, *at)));
-            missing.extend(lacking.map(|at| format!("{name} {at}")));
-        }
+        let mut missing = self.missing_codes();
+        missing.extend(self.missing_arrays());
         let whens = WHENS.iter().filter(|(when, _)| !self.by_zero.contains_key(when));
         missing.extend(whens.map(|(_, name)| format!("a last process set by 0 {name}")));
         let bad = BAD.iter().filter(|code| !self.bad.contains_key(code));
@@ -156,6 +150,37 @@ impl Tally {
         }
         missing
     }
+
+    fn missing_codes(&self) -> Vec<String> {
+        let mut missing = Vec::new();
+        for (index, EventKind { name, codes, wakings, .. }) in EVENTS.iter().enumerate() {
+            let codes = lacking(&self.codes, index, codes.iter().copied());
+            missing.extend(codes.map(|code| format!("{name} with code {code}")));
+            let wakings = lacking(&self.wakings, index, wakings.iter().copied());
+            missing.extend(wakings.map(|code| format!("a waking with {code} by {name}")));
+        }
+        missing
+    }
+
+    /// Decisions and lengths of arrays.
+    fn missing_arrays(&self) -> Vec<String> {
+        let mut missing = Vec::new();
+        for (decision, name, positions) in DECISIONS {
+            let lacking = lacking(&self.decided, decision, positions);
+            missing.extend(lacking.map(|at| format!("{name} {at}")));
+        }
+        for (length, name, codes) in LENGTHS {
+            let lacking = lacking(&self.lengths, length, codes.iter().copied());
+            missing.extend(lacking.map(|code| format!("{name} {code}")));
+        }
+        missing
+    }
+}
+
+fn count_each<K: Ord>(counts: &mut Counts<K>, keys: impl IntoIterator<Item = K>) {
+    for key in keys {
+        *counts.entry(key).or_default() += 1;
+    }
 }
 
 fn add_all<K: Ord>(counts: &mut Counts<K>, others: Counts<K>) {
@@ -164,7 +189,16 @@ fn add_all<K: Ord>(counts: &mut Counts<K>, others: Counts<K>) {
     }
 }
 
-/// The counts of one event or decision.
+/// Those of the wanted numbers that never came with one event, decision or length.
+fn lacking<'a, K: Copy + Ord + 'a, N: Copy + Ord>(
+    counts: &'a Counts<(K, N)>,
+    key: K,
+    wanted: impl Iterator<Item = N> + 'a,
+) -> impl Iterator<Item = N> + 'a {
+    wanted.filter(move |number| !counts.contains_key(&(key, *number)))
+}
+
+/// The counts of one event, decision or length.
 fn of<K: PartialEq, N>(counts: &Counts<(K, N)>, wanted: K) -> impl Iterator<Item = (&N, &u64)> {
     counts
         .iter()
@@ -178,4 +212,22 @@ fn entries<'a, N: Display + 'a>(counts: impl Iterator<Item = (&'a N, &'a u64)>) 
         counts.map(|(number, count)| format!("{number:>3}: {count:<7} ")).collect();
     let lines: Vec<String> = entries.chunks(6).map(|some| some.concat()).collect();
     lines.join(&format!("\n{:TITLE$}", ""))
+}
+
+#[cfg(test)]
+mod tests {
+    use super::*;
+    use crate::sweep;
+    use second::{replay, Rule};
+
+    /// The files that every seed has show all decisions and lengths.
+    #[test]
+    fn the_sweep_reaches_all_of_arrays() {
+        let mut tally = Tally::default();
+        for file in sweep::files() {
+            let [quick, plain] = [Rule::Quick, Rule::Plain].map(|rule| replay(&file, rule));
+            tally.add(&file, &Texts { quick, plain }).expect("lines");
+        }
+        assert_eq!(tally.missing_arrays(), [""; 0]);
+    }
 }

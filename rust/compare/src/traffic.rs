@@ -24,8 +24,7 @@ pub fn kind_named(name: &str) -> Option<&'static Kind> {
     kinds().find(|kind| kind.name == name)
 }
 
-/// All the files of a seed. Every other one is small and always the same, until those come to
-/// their end.
+/// All the files of a seed. Every other one is always the same, until those come to their end.
 pub struct Files {
     seed: u64,
     kinds: Vec<&'static Kind>,

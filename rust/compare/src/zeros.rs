@@ -75,20 +75,18 @@ impl<'a> Zeros<'a> {
 #[cfg(test)]
 mod tests {
     use super::*;
+    use crate::line::followed;
     use second::event::{create, operate, query, remove, set_value, Body};
-    use second::{replay, run_file, Rule, RunFile, NOWAIT};
+    use second::{run_file, NOWAIT};
 
     /// What the queries of a run show.
     fn shown(bodies: &[Body]) -> Vec<Option<When>> {
-        let file = run_file(bodies);
-        let text = String::from_utf8(replay(&file, Rule::Quick)).expect("a text");
-        let run = RunFile::read(&file).expect("a good file");
         let mut zeros = Zeros::default();
-        let all = run.events().zip(text.lines().skip(1));
-        let read = |line| Line::read(line).expect("the form of a line");
-        let shown = all.map(|(event, line)| (event, zeros.follow(event, &read(line))));
-        let queries = shown.filter(|(event, _)| matches!(event, Event::Query { .. }));
-        queries.map(|(_, when)| when).collect()
+        let follow = |event, line: &Line| {
+            let when = zeros.follow(event, line);
+            matches!(event, Event::Query { .. }).then_some(when)
+        };
+        followed(&run_file(bodies), follow).into_iter().flatten().collect()
     }
 
     #[test]

@@ -88,6 +88,16 @@ mod tests {
     }
 
     #[test]
+    fn the_last_of_thirty_two() {
+        let array = format!("1:-2 {}0:+32767", "0:+1 ".repeat(30));
+        let above = "semaphore 0 has value 61 after operation 30, plus 32767 is above 32767";
+        assert_eq!(told(34, 31, &array, &[31, 2]), above);
+        let wants = "semaphore 1 has value 0, the call wants 2";
+        assert_eq!(told(-1, 0, &array, &[31, 0]), wants);
+        assert_eq!(told(34, 32, &array, &[31, 2]), "");
+    }
+
+    #[test]
     fn nothing_is_said_without_the_value() {
         assert_eq!(told(-1, 1, "0:0 1:-1", &[0]), "");
         assert_eq!(told(-1, 1, "0:-1", &[0]), "");

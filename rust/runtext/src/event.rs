@@ -6,7 +6,7 @@ use crate::codes::OUT_OF_RANGE;
 use crate::count::counted;
 use crate::field::Field;
 use crate::mask;
-use crate::operation::Operation;
+use crate::operation::{array_in_words, Operation};
 
 /// Any value that fits the body is kept, also one that every host refuses.
 #[derive(Clone, Debug, PartialEq, Eq)]
@@ -120,10 +120,9 @@ impl Event {
                 format!("create a set of {semaphores}, {}", permissions(*read, *alter))
             }
             Event::Operate { process, identifier, operations } => {
-                let operations: Vec<String> = operations.iter().map(Operation::in_words).collect();
-                let operations = match operations[..] {
+                let operations = match &operations[..] {
                     [] => "no operations".to_string(),
-                    _ => operations.join("; "),
+                    all => array_in_words(all),
                 };
                 format!("process {process} on set {identifier}: {operations}")
             }

@@ -67,8 +67,24 @@ pub fn added(operations: &[Operation], number: u16) -> i32 {
     there.map(|operation| i32::from(operation.amount)).sum()
 }
 
+/// An array in words; an operation that stands several times in a row is told once.
+pub fn array_in_words(operations: &[Operation]) -> String {
+    let mut runs: Vec<(&Operation, u32)> = Vec::new();
+    for operation in operations {
+        match runs.last_mut() {
+            Some((same, times)) if *same == operation => *times += 1,
+            _ => runs.push((operation, 1)),
+        }
+    }
+    let words = |(operation, times): &(&Operation, u32)| match times {
+        1 => operation.in_words(),
+        _ => format!("{}, {times} times", operation.in_words()),
+    };
+    runs.iter().map(words).collect::<Vec<_>>().join("; ")
+}
+
 impl Operation {
-    pub fn in_words(&self) -> String {
+    fn in_words(&self) -> String {
         let number = self.number;
         let magnitude = self.amount.unsigned_abs();
         let words = match self.amount {
@@ -119,6 +135,19 @@ mod tests {
         assert_eq!(text("1:3/0x0"), "1:+3");
         assert_eq!(text("2:-0/nowait,undo"), "2:0/undo,nowait");
         assert_eq!(text("2:+1/0x1807"), "2:+1/undo,nowait,0x0007");
+    }
+
+    #[test]
+    fn the_same_several_times() {
+        let array = ["0:+1", "0:+1", "0:+1/undo", "1:-2", "0:+1", "0:0/nowait", "0:0/nowait"];
+        let array = array.map(|text| operation(text).expect("an operation"));
+        let wanted = "add 1 to semaphore 0, 2 times; add 1 to semaphore 0 (undo); \
+            take 2 from semaphore 1; add 1 to semaphore 0; \
+            wait for zero at semaphore 0 (nowait), 2 times";
+        assert_eq!(array_in_words(&array), wanted);
+        let array = [[array[0]; 31].as_slice(), &array[3..4]].concat();
+        let wanted = "add 1 to semaphore 0, 31 times; take 2 from semaphore 1";
+        assert_eq!(array_in_words(&array), wanted);
     }
 
     #[test]

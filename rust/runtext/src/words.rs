@@ -78,7 +78,7 @@ mod tests {
         for (code, position, why, wanted) in [
             (-1, None, "", "asleep (-1)".to_string()),
             (-1, Some(0), "", "asleep (-1) at operation 0".to_string()),
-            (-1, Some(0), "so", "asleep (-1) at operation 0: so".to_string()),
+            (-1, Some(31), "so", "asleep (-1) at operation 31: so".to_string()),
             (11, None, "", format!("refused: EAGAIN (11), {nowait}")),
             (11, Some(1), "", format!("refused: EAGAIN (11) at operation 1, {nowait}")),
             (11, Some(1), "so", format!("refused: EAGAIN (11) at operation 1: so; {nowait}")),
@@ -101,7 +101,7 @@ mod tests {
             (11, Some(1), None, format!("EAGAIN (11) at operation 1, {nowait}")),
             (11, Some(1), Some("so"), format!("EAGAIN (11) at operation 1: so; {nowait}")),
             (34, Some(2), None, format!("ERANGE (34) at operation 2, {OUT_OF_RANGE}")),
-            (34, Some(2), Some("so"), "ERANGE (34) at operation 2: so".to_string()),
+            (34, Some(31), Some("so"), "ERANGE (34) at operation 31: so".to_string()),
         ] {
             let words = waking(&Waking { process: 3, code, position }, why.map(str::to_string));
             assert_eq!(words, format!("process 3: {wanted}"));

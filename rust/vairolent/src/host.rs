@@ -10,8 +10,8 @@ use crate::operation::Operation;
 use crate::set::Set;
 use crate::wakings::Wakings;
 
-/// All that the service knows: the sets, the undo adjustments and the sleepers. It is some thousand
-/// bytes in itself, with nothing outside of it.
+/// All that the service knows: the sets, the undo adjustments and the sleepers. It is some two
+/// thousand bytes in itself, with nothing outside of it.
 ///
 /// Only the events change a host, so it is always fresh or as the last event left it. That is the
 /// one premise of what is proved about them, and it holds of a clone too.

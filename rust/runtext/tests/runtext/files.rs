@@ -5,7 +5,7 @@ use std::fs;
 use crate::{bad, built, good, run, runtext};
 
 /// Kinds of good files, all of which `compare --help` lists.
-const KINDS: [&str; 6] = ["medley", "mixed", "extremes", "refusals", "queries", "random"];
+const KINDS: [&str; 7] = ["medley", "mixed", "extremes", "refusals", "queries", "random", "long"];
 /// Files of a seed, good and bad.
 const FILES: usize = 60;
 
@@ -56,7 +56,7 @@ fn files_good_and_bad() {
 
 #[test]
 fn a_text_of_a_run_file_too_long() {
-    let full = generated(&["--kind", "random", "--seed", "6"]);
+    let full = generated(&["--kind", "mixed", "--seed", "6"]);
     let mut text = good(&["disassemble"], &full);
     text.extend_from_slice(&text.clone());
     let output = runtext(&["assemble"], &text);

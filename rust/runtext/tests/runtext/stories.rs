@@ -121,13 +121,26 @@ fn a_full_file() {
     assert!(queries.len() > 200 && queries.iter().all(|&agrees| agrees));
     let cut = story.matches("not all shown").count();
     assert!(cut <= 4, "{cut} events of a full file without all values");
-    let mut decided = 0;
-    for scene in story.split("\n\n").filter(|scene| !scene.contains("not all shown")) {
+    let decided = told_with_reasons(&story);
+    assert!(decided > 200, "{decided} operations that decided");
+}
+
+#[test]
+fn operations_that_decided_in_long_arrays() {
+    let story = story(&["--run"], &generated(&["--kind", "long", "--seed", "3"]));
+    let decided = told_with_reasons(&story);
+    assert!(decided > 100, "{decided} operations that decided");
+    assert!(story.contains(" asleep (-1) at operation 31: semaphore "), "{story}");
+}
+
+/// How many operations decided, all of them told with a reason.
+fn told_with_reasons(story: &str) -> usize {
+    let reasons = |scene| {
         let (named, told) = named_and_told(scene);
         assert_eq!(named, told, "{scene}");
-        decided += told;
-    }
-    assert!(decided > 200, "{decided} operations that decided");
+        told
+    };
+    story.split("\n\n").filter(|scene| !scene.contains("not all shown")).map(reasons).sum()
 }
 
 /// How many operations the line of a scene names, and how many the story tells with a reason.

@@ -87,8 +87,8 @@ fn order_of_the_checks() {
 
 #[test]
 fn any_number_of_operations_with_the_matching_length_is_a_good_file() {
-    for number in [0, 9, 255] {
-        let code = if number == 0 { 22 } else { 7 };
+    for number in 0..=255 {
+        let code = if number <= 32 { 22 } else { 7 };
         let file = run_file(&[operate(1, 0, &vec![(0, 0, 0); number])]);
         assert_eq!(line(&file), format!("events 1\n0 {code} 0 0\n"));
     }

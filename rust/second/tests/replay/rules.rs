@@ -7,7 +7,7 @@ use crate::{check, check_on_a_set, create};
 
 #[test]
 fn checks_go_in_their_order() {
-    let many = [(99, 1, 0); 9];
+    let many = [(99, 1, 0); 33];
     check(&[
         (event::create(0, 1, 1), "22 0 0"),
         (event::create(9, 1, 1), "22 0 0"),
@@ -175,5 +175,20 @@ fn the_first_operation_decides() {
         (operate(1, 0, &[(0, -1, 0), (1, -1, NOWAIT)]), "-1@0 0 0"),
         (operate(2, 0, &[(1, 32_767, 0), (1, 1, 0), (2, -1, NOWAIT)]), "34@1 0 0"),
         (operate(2, 0, &[(2, -1, 0xE7FF), (1, 32_767, 0), (1, 1, 0)]), "-1@0 0 0"),
+    ]);
+}
+
+/// A call has no operation of an earlier one, whether that slept or was refused.
+#[test]
+fn a_shorter_call_of_the_same_process() {
+    let long = [vec![(0, 1, 0); 31], vec![(1, -1, 0)]].concat();
+    check_on_a_set(&[
+        (operate(1, 0, &long), "-1@31 0 0"),
+        (signal(1), "0 0 0 1=4"),
+        (operate(1, 0, &[(1, -1, 0)]), "-1@0 0 0"),
+        (operate(1, 0, &long), "16 0 0"),
+        (operate(2, 4, &long), "22 0 0"),
+        (operate(2, 0, &[(1, 1, 0)]), "0 0 1 1=0"),
+        (query(0, 0), "0 0 0 0 0"),
     ]);
 }

@@ -183,3 +183,16 @@ fn situation_15_so_does_one_that_is_woken() {
         (query(0, 1), "0 0 2 0 0"),
     ]);
 }
+
+#[test]
+fn situation_18_sleepers_with_thirty_two_operations() {
+    let takes = [vec![(0, 1, 0); 31], vec![(1, -1, 0)]].concat();
+    let overflows = [vec![(1, -2, 0)], vec![(0, 1, 0); 30], vec![(0, 32_767, 0)]].concat();
+    check_on_a_set(&[
+        (operate(1, 0, &takes), "-1@31 0 0"),
+        (operate(2, 0, &overflows), "-1@0 0 0"),
+        (set_value(0, 1, 3), "0 0 2 1=0 2=34@31"),
+        (query(0, 0), "0 31 1 0 0"),
+        (query(0, 1), "0 2 1 0 0"),
+    ]);
+}

@@ -1,6 +1,6 @@
 //! Every ending of a sleeper, from every event that wakes.
 
-use vairolent::{Answer, Ending, Error, Host, Operation, Wakings, VALUE_MAX};
+use vairolent::{Answer, Ending, Error, Host, Operation, Wakings, OPERATIONS, VALUE_MAX};
 
 use crate::{sleep, with_set};
 
@@ -78,6 +78,26 @@ fn refused_while_asleep() {
     let wanted = [(1, Ending::WouldSleep { position: 1 }), (2, Ending::OutOfRange { position: 1 })];
     assert_eq!(listed(wakings), wanted);
     assert_eq!(host.query(set, 0).map(|semaphore| semaphore.value), Ok(1));
+}
+
+/// Both have as many operations as there can be.
+#[test]
+fn done_and_refused_with_the_longest_arrays() {
+    const LAST: usize = OPERATIONS - 1;
+    let (mut host, set) = with_set(2);
+    let mut takes = [ADD; OPERATIONS];
+    takes[LAST] = Operation::new(1, -1);
+    let mut overflows = [ADD; OPERATIONS];
+    overflows[0] = Operation::new(1, -2);
+    overflows[LAST] = Operation::new(0, i16::MAX);
+    assert_eq!(host.operate(1, set, &takes), Ok(Answer::Asleep { position: LAST }));
+    assert_eq!(host.operate(2, set, &overflows), Ok(Answer::Asleep { position: 0 }));
+    let wakings = host.set_value(set, 1, 3).expect("set");
+    assert_eq!(wakings.looks(), 2);
+    let wanted = [(1, Ending::Done), (2, Ending::OutOfRange { position: LAST })];
+    assert_eq!(listed(wakings), wanted);
+    let values = [0, 1].map(|number| host.query(set, number).expect("seen").value);
+    assert_eq!(values, [31, 2]);
 }
 
 #[test]

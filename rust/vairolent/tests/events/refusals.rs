@@ -9,6 +9,9 @@ use crate::{sleep, with_set};
 /// Numbers that name no live set where set 0 is the only one.
 const NO_SETS: [i32; 6] = [1, 4, 262_144, i32::MAX, -1, i32::MIN];
 
+/// Numbers of operations above the limit.
+const TOO_MANY: [usize; 3] = [OPERATIONS + 1, 255, 1_000];
+
 const ADD: Operation = Operation::new(0, 1);
 const TAKE: Operation = Operation::new(0, -1);
 const ZERO: Operation = Operation::new(0, 0);
@@ -47,7 +50,7 @@ fn operate_by_its_checks() {
     }
     refused(&mut host, Error::ProcessAsleep, |host| host.operate(2, 9, &[]));
     refused(&mut host, Error::Invalid, |host| host.operate(1, 9, &[]));
-    for length in [OPERATIONS + 1, 255, 1_000] {
+    for length in TOO_MANY {
         let many = vec![far; length];
         refused(&mut host, Error::TooManyOperations, |host| host.operate(1, 9, &many));
     }
@@ -59,6 +62,21 @@ fn operate_by_its_checks() {
         refused(&mut host, Error::NoSemaphore, |host| host.operate(1, set, &operations));
     }
     refused(&mut host, Error::NotPermitted, |host| host.operate(1, set, &[TAKE.nowait()]));
+}
+
+/// Up to the limit every operation is judged, above it none.
+#[test]
+fn operate_by_its_length() {
+    let (mut host, set) = with_set(1);
+    let many = [ADD; 1_000];
+    for length in 1..=OPERATIONS {
+        assert!(matches!(host.operate(1, set, &many[..length]), Ok(Answer::Done(_))));
+    }
+    let sum = OPERATIONS * (OPERATIONS + 1) / 2;
+    assert_eq!(host.query(set, 0).map(|semaphore| semaphore.value.into()), Ok(sum));
+    for length in TOO_MANY {
+        refused(&mut host, Error::TooManyOperations, |host| host.operate(1, set, &many[..length]));
+    }
 }
 
 #[test]

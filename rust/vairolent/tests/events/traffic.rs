@@ -3,7 +3,7 @@
 
 use std::collections::{BTreeMap, BTreeSet};
 
-use vairolent::{Answer, Ending, Error, Host, Operation, Waking, Wakings, ALL};
+use vairolent::{Answer, Ending, Error, Host, Operation, Waking, Wakings, ALL, OPERATIONS};
 
 const EVENTS: usize = 200_000;
 
@@ -127,7 +127,8 @@ impl Traffic {
 
     fn operate(&mut self) -> Result<(), Error> {
         let (process, identifier) = (self.process(), self.identifier());
-        let length = if self.random.below(20) == 0 { self.random.below(12) } else { 2 };
+        let above = OPERATIONS as u64 + 4;
+        let length = if self.random.below(20) == 0 { self.random.below(above) } else { 2 };
         let operations: Vec<Operation> = (0..length).map(|_| self.random.operation()).collect();
         let call = Call { process, identifier, operations };
         let before = self.host.clone();

@@ -6,6 +6,7 @@ use mir.Syntax.{w16}
 use mir.Facts.{toZ-ofZ}
 use borrow.Author.Needs.{sfits-of, needs}
 use Rattle.model.specs.Limits.{semaphores}
+use Rattle.host.specs.Rows.{undoAt}
 use Rattle.host.proofs.RowLaws.{Reading, read-none, read-more, read-all, from-beyond}
 use Rattle.host.proofs.SleeperLaws.{undo-room}
 use Rattle.host.proofs.adjustments.adjustments_of.Statement.{statement}
@@ -23,7 +24,7 @@ start-of-requires c κs = search needs
 returns : tie.Need-returns Inv-loop μ-loop
 returns c =
     let a = c .before .before .before .args in
-    rw (← c .before .start-of .ensures) (sym (from-beyond (pos 0) semaphores (c .before .start-of .result) (a .adjustments .now) (search needs)))
+    sym (from-beyond (pos 0) semaphores (undoAt (a .process) (a .slot)) (a .adjustments .now) (omega (arith, c .before .start-of .ensures)))
 
 loop-holds : tie.Need-loop-holds Inv-loop μ-loop
 loop-holds c = read-none (pos 0) _ _ _ _ refl

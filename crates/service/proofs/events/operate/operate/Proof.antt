@@ -202,8 +202,8 @@ returns-2 c =
     let s = entered j in
     let e = a .before .before .before .enum-told .given .1 in
     let lent = done-lent (x s) (s .pre) _ _ _ (passes j) (s .args .engine) _ _ _ (judged j) e (table a) (cleared j .clear .ensures) in
-    done-after (x s) (s .pre) _ _ _ (passes j) (s .args .engine) _ _ _ (judged j) e (slot (slotted j)) (values-are (j .before .before .before .before .before)) (sizes j .0) (n .before .before .before .before .differing-mask .ensures)
-    (begun (n .nobody .ensures) lent (treated (s .args .engine) _ _) (c .before .wake .ensures)) (c .told .ensures)
+    done-after (x s) (s .pre) _ _ _ (passes j) (s .args .engine) _ _ _ (judged j) e (slot (slotted j)) (values-are (j .before .before .before .before .before)) (sizes j .0)
+    (begun (n .nobody .ensures) lent (treated (s .args .engine) _ _) (c .before .wake .ensures)) (n .before .before .before .before .differing-mask .ensures) (c .told .ensures)
 
 returns-3 : tie.Need-returns-3
 returns-3 c =

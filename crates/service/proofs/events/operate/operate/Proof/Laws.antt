@@ -115,12 +115,13 @@ module _ (x : Host) (k : Held x) (p : ℕ) (i : ℤ) (bytes : List ℕ) (z : che
           et ∙ ap₂ (differing 0 0) eb (sym (applied-values (tableIn x) (call p i bytes) c (held-invariant x k .good .values) (call-fits .slot) el)
           ∙ ap (λ (t : Table). valuesOf t (slotOf i)) done-is)
 
-      pub done-after : {slot touched : ℕ} {before : List ℕ} {y : Left} {told : Told} → slot ≡ slotOf i → before ≡ valuesOf (tableIn x) (slotOf i) → length (c .values) ≡ semaphores → touched ≡ differing 0 0 before (c .values)
+      pub done-after : {slot touched : ℕ} {before : List ℕ} {y : Left} {told : Told} → slot ≡ slotOf i → before ≡ valuesOf (tableIn x) (slotOf i) → length (c .values) ≡ semaphores
           → y ≡ treated engine slot touched (unwoken x (applied (tableIn x) (call p i bytes) (look (tableIn x) (call p i bytes) .copies)) (queueIn (x .row))) 0
+          → touched ≡ differing 0 0 before (c .values)
           → told ≡ telling (pos 0) 0 (y .looks) (y .lent .woken)
           → record { host = y .lent .host; wakings = y .lent .wakings; told = told } ≡ afterOf (doOperate (waker engine) (stateIn x) p i bytes)
       unfolding operated
-      done-after es eb el et ey eu =
+      done-after es eb el ey et eu =
           after-treated x k _ (queueIn (x .row)) good (held-invariant x k .fits) (held-invariant x k .distinct) engine (slotOf i) _
           (ey ∙ ap₂ (λ (a b : ℕ). treated engine a b (unwoken x done-table (queueIn (x .row))) 0) es (touched-is eb el et)) eu
           ∙ does e
