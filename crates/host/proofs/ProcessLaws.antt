@@ -8,7 +8,7 @@ use mathlib.Core.Logic.{_≢_}
 use mathlib.Core.List.{List, [], _∷_, _++_, append-assoc, append-nil}
 use borrow.Author.Tests.{eq-eqb, ne-eqb}
 use lib.Dec.{eqb}
-use lib.ListN.{length, getD, take, drop, set, replicate, length-append, length-replicate, replicate-append-replicate, drop-of-length-le}
+use lib.ListN.{length, getD, take, drop, set, replicate, length-append, length-replicate, replicate-append-replicate}
 use lib.Seq.{paste, take-append-le, drop-append-le, take-append-add, drop-append-add, take-at, drop-at, take-take, take-all, take-length, length-take-le}
 use Rattle.model.specs.Limits.{processes, arrayBytes}
 use Rattle.model.specs.State.{Sleeper, noSleeper}

@@ -36,7 +36,7 @@ use Rattle.host.specs.Queue.{Room}
 use Rattle.host.proofs.ProcessLaws.{of-own}
 use Rattle.host.proofs.SleeperLaws.{zeros-at}
 use Rattle.host.proofs.QueueRows.{array-read-back}
-use Rattle.judging.specs.Stop.{Stopped, stoppedAt, stopFrom}
+use Rattle.judging.specs.Stop.{stopFrom}
 use Rattle.judging.proofs.StopLaws.{stop-in-room}
 use Rattle.service_waking.proofs.LookLaws.{values-read}
 use Rattle.service_waking.proofs.ByProcess.{upTo, mask-start, mask-end, mask-next, mask-lacks, by-next}

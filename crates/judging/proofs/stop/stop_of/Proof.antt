@@ -6,7 +6,6 @@ use mathlib.Core.Logic.{⊎-elim}
 use mathlib.Core.Bool.{true, not}
 use native.Mathlib.Omega.{arith}
 use Prim.Native.Nat.{_-_, _%_, _≤_}
-use lib.IntN.{ℤ}
 use lib.ListN.{getD}
 use mir.Syntax.{w16, w32}
 use mir.Facts.{toZ-ofZ}
