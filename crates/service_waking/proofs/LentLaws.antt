@@ -221,6 +221,10 @@ module _ (x : Lent) (r : Ready x) where
               ∙ ap₂ (λ (l : List Place) (m : ℕ). record { host = record { row = row; adjustments = adjustments }; wakings = l; woken = m }) w n
 
 -- an array that is not done leaves the table
+-- what was judged and is not done: its copies do not count
+pub undone-as : {t : Table} {s : Sleeper} {o : Outcome} {i : ℕ} {c : Copies} → JudgedAs t s o i c → OneOf (1 ∷ 2 ∷ 3 ∷ []) (tagOf the-type o) → (d : Copies) → JudgedAs t s o i d
+undone-as j k d = record { outcome = j .outcome; position = j .position; copies = λ e. absurd (miss (1 ∷ 2 ∷ 3 ∷ []) 0 tt (subst (λ (x : Outcome). OneOf (1 ∷ 2 ∷ 3 ∷ []) (tagOf the-type x)) e k)) }
+
 pub after-stays : (t : Table) (s : Sleeper) (o : Outcome) (c : Copies) → OneOf (1 ∷ 2 ∷ 3 ∷ []) (tagOf the-type o) → t ≡ after t s o c
 unfolding after
 after-stays t s Done c h = absurd (miss (1 ∷ 2 ∷ 3 ∷ []) 0 tt h)

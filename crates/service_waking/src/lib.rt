@@ -69,8 +69,9 @@ fn ending(outcome: Outcome) -> u8
     }
 }
 
-// What a look told: the position where judging ended, the copies of the values and of the adjustments as the operations leave
-// them, and the outcome. It stands last: behind its one byte the copies would be read across words, which takes longer.
+// What a look told: the position where judging ended, of a done array the copies of the values and of the adjustments as it
+// leaves them, of any other zeros, and the outcome. It stands last: behind its one byte the copies would be read across words,
+// which takes longer.
 struct Looked {
     pub position: usize,
     pub values: [u16; SEMAPHORES],
@@ -88,12 +89,21 @@ fn look(host: &[u8; HOST_BYTES], adjustments: &[i16; ALL_ADJUSTMENTS], at: usize
     let mut values = values_of(host, slot);
     let mut undo = adjustments_of(adjustments, process, slot);
     let verdict = judge(&mut values, &mut undo, array_of(host, process));
+    let position = verdict.position;
     let outcome = verdict.outcome;
-    Looked {
-        position: verdict.position,
-        values: values,
-        undo: undo,
-        outcome: outcome,
+    match outcome {
+        Outcome::Done => Looked {
+            position: position,
+            values: values,
+            undo: undo,
+            outcome: outcome,
+        },
+        _ => Looked {
+            position: position,
+            values: [0u16; SEMAPHORES],
+            undo: [0i16; SEMAPHORES],
+            outcome: outcome,
+        },
     }
 }
 
