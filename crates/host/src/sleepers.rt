@@ -169,7 +169,7 @@ pub fn store_array(host: &mut [u8; HOST_BYTES], process: u8, bytes: &[u8])
     }
 }
 
-// The first bytes of the room for a process's array are zero, so many as its array had.
+// The first bytes of the room for a process's array are zero: as many as are asked for, and no more than there are.
 pub fn clear_array(host: &mut [u8; HOST_BYTES], process: u8, size: usize)
     ensures { λ _. ⌜ rowIn (now (host .exit)) ≡ with (rowIn (now (host .entry))) arrays (sets (rowIn (now (host .entry)) arrays) (arrayBytes * entry process) (replicate (min arrayBytes size) 0)) ⌝ }
 {
