@@ -80,14 +80,7 @@ module _ {a z : ℤ} (k : SFits w16 a) (h : SFits w16 z) where
   pub difference-is : toZ w32 (ofZ w32 (widened a -ℤ widened z)) ≡ a -ℤ z
   difference-is = toZ-ofZ difference-fits ∙ rw (wide-is k, wide-is h)
 
--- a value, and an amount, taken off 0; and that off a value again
-module _ {v : ℕ} (f : Fits w16 v) where
-  pub minus-fits : SFits w32 (pos 0 -ℤ toZ w32 v)
-  minus-fits = rw (value-is f) (small (pos 0 -ℤ pos v) (omega (arith, size-add (pos 0) (negℤ (pos v)), size-neg (pos v), f .fits)))
-
-  pub minus-is : toZ w32 (ofZ w32 (pos 0 -ℤ toZ w32 v)) ≡ pos 0 -ℤ pos v
-  minus-is = toZ-ofZ minus-fits ∙ rw (value-is f)
-
+-- an amount taken off 0, and that off a value
 module _ {z : ℤ} (h : SFits w16 z) where
   pub magnitude-fits : SFits w32 (pos 0 -ℤ widened z)
   magnitude-fits = rw (wide-is h) (small (pos 0 -ℤ z) (omega (arith, size-add (pos 0) (negℤ z), size-neg z, size16 h)))

@@ -1,10 +1,10 @@
 // What an amount makes of a value and of an adjustment. Sums and magnitudes are taken in 32 bits, where none of them wraps:
 // the magnitude of -32,768 is 32,768.
 ghost use mathlib.Core.Path.{_≡_};
+ghost use lib.IntN.{pos, _+ℤ_};
 ghost use Rattle.model.specs.Operation.{isZero, isNegative};
 ghost use Rattle.model.specs.Judge.{nextValue, nextAdjustment};
 ghost use Rattle.model.specs.Events.{cut as cutTo};
-ghost use Rattle.judging.specs.Stop.{movedTo};
 use model::Next;
 use model::Undo;
 use model::VALUE_MAX;
@@ -26,14 +26,13 @@ pub fn is_negative(amount: i16) -> bool
     amount < 0
 }
 
-// Where an amount leads from a value: below 0 if the value is smaller than the magnitude of an amount below 0, and, at an
-// amount of 0, if it is any but 0.
+// The value with the amount added: below 0 if the value is smaller than the magnitude of an amount below 0.
 pub fn moved(value: u16, amount: i16) -> i32
-    ensures { λ r. ⌜ r ≡ movedTo value amount ⌝ }
+    ensures { λ r. ⌜ r ≡ pos value +ℤ amount ⌝ }
 {
     let old = value as i32;
     let needed = 0 - (amount as i32);
-    if amount == 0 { 0 - old } else { old - needed }
+    old - needed
 }
 
 // The value with the amount added, or why there is none. The common case is one test of the range. A value above it can only

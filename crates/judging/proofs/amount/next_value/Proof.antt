@@ -39,7 +39,10 @@ new c = movedTo (c .before .before .args .value) (c .before .before .args .amoun
 
 -- .. as it stands in a local
 new-is : (c : tie.After-moved) → toZ w32 (ofZ w32 (c .moved .result)) ≡ new c
-new-is c = toZ-ofZ (record { sfits = c .moved .ok }) ∙ (rw (toZ-ofZ (c .before .before .fits .amount)) at (c .moved .ensures))
+new-is c =
+    let s = c .before .before in
+    let not-zero : isZero (s .args .amount) ≡ false = sym (zero-is (s .fits .amount)) ∙ ne-eqb _ _ (c .before .if1 .left) in
+    rw not-zero (toZ-ofZ (record { sfits = c .moved .ok }) ∙ (rw (toZ-ofZ (s .fits .amount)) at (c .moved .ensures)))
 
 -- in range
 low : (c : tie.Then4) → ltZ (new (c .before .before)) (pos 0) ≡ false

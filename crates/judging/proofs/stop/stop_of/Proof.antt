@@ -1,9 +1,9 @@
 -- The invariant: going on from here stops where going from the start does.
 use borrow.Author.Needs.{needs}
-use borrow.Author.Tests.{eq-eqb}
+use borrow.Author.Tests.{eq-eqb, ne-eqb}
 use mathlib.Core.Path.{_≡_, refl, sym, ap, _∙_}
 use mathlib.Core.Logic.{⊎-elim}
-use mathlib.Core.Bool.{true, not}
+use mathlib.Core.Bool.{true, false, not}
 use native.Mathlib.Omega.{arith}
 use Prim.Native.Nat.{_-_, _%_, _≤_}
 use lib.ListN.{getD}
@@ -72,7 +72,10 @@ new-is : (c : tie.After-moved Inv-loop μ-loop) → toZ w32 (ofZ w32 (c .moved .
 new-is c = toZ-ofZ (record { sfits = c .moved .ok })
 
 leads : (c : tie.After-moved Inv-loop μ-loop) → let o = read (c .before .before) in c .moved .result ≡ movedTo (getD (o .before .before .loop .values) (o .operation-at .result .number % semaphores) 0) (o .operation-at .result .amount)
-leads c = rw (amount-is (c .before .before)) at (c .moved .ensures)
+leads c =
+    let v = c .before .before in
+    let not-zero : isZero (read v .operation-at .result .amount) ≡ false = sym (zero-is (record { sfits = v .before .struct-told .given .1 .0 .1 })) ∙ ne-eqb _ _ (c .before .if1 .left) in
+    rw not-zero (rw (amount-is v) at (c .moved .ensures))
 
 in-range-is : (c : tie.After-in-range Inv-loop μ-loop) → c .in-range .result ≡ inRange (c .before .moved .result)
 in-range-is c = rw (new-is (c .before)) at (c .in-range .ensures)
