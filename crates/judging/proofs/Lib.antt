@@ -10,3 +10,4 @@ pub mod StopLaws
 mod Refusals
 mod Masks
 pub mod Identifiers
+pub mod Settings

@@ -6,7 +6,7 @@ ghost use Rattle.model.specs.Operation.{two, signed16, operationAt, hasBit};
 use model::Operation;
 
 // Two bytes.
-fn half(low: u8, high: u8) -> u16
+pub fn half(low: u8, high: u8) -> u16
     ensures { λ r. ⌜ r ≡ two low high ⌝ }
 {
     (low as u16) + 256 * (high as u16)

@@ -1,8 +1,8 @@
 -- What holds once the checks of an event apply to nothing.
-use Prim.Native.Nat.{ℕ, zero, suc, _+_, _/_, _%_, _≤_, _<_}
+use Prim.Native.Nat.{ℕ, zero, suc, _+_, _*_, _/_, _%_, _≤_, _<_}
 use native.Mathlib.Nat.{mod-lt, zero-lt-suc}
 use native.Mathlib.Omega.{arith}
-use mathlib.Core.Path.{_≡_, refl}
+use mathlib.Core.Path.{_≡_, refl, ap, _∙_}
 use mathlib.Core.Bool.{Bool, true, false, cond, _||_, _&&_}
 use mathlib.Core.List.{List, [], _∷_}
 use lib.Dec.{eqb, ltb, leb}
@@ -11,10 +11,11 @@ use lib.IntN.{ℤ, pos, negsuc, natAbs}
 use borrow.Author.Tests.{eqb-true, eqb-false, ltb-true, ltb-false, leb-true, leb-false, not-false}
 use Rattle.model.specs.declared.Set.{Set}
 use Rattle.model.specs.declared.Operation.{Operation}
-use Rattle.model.specs.Limits.{slots, semaphores, processes, valueMax, operationBytes, arrayBytes}
+use Rattle.model.specs.Limits.{slots, semaphores, processes, valueMax, operationBytes, arrayBytes, valueBytes}
 use Rattle.model.specs.State.{State, Sleeper}
 use Rattle.model.specs.Operation.{operationAt, operationsFrom, operationsOf}
-use Rattle.model.specs.Checks.{check, live, slotOf, namesSet, noProcess, numberTooHigh, freeFrom, freeSlot, checkCreate, checkOperate, checkNumber, inRange, checkSetValue, checkSet, checkProcess}
+use Rattle.model.specs.Checks.{check, live, slotOf, namesSet, noProcess, numberTooHigh, freeFrom, freeSlot, checkCreate, checkOperate, checkNumber, inRange, checkSetValue, allInRange, checkSetAll, checkSet, checkProcess}
+use Rattle.model.specs.Values.{valueAt, valuesFrom, valuesIn, held}
 use Rattle.model.specs.Events.{call}
 use Rattle.model.specs.Runs.{All, none, also}
 use Rattle.model.proofs.Lists.{first}
@@ -62,15 +63,18 @@ numbers-below count (o ∷ os) e =
     let x : (leb count (o .number) ≡ false) × (numberTooHigh count os ≡ false) = or-false (leb count (o .number)) (numberTooHigh count os) e in
     also (leb-false count (o .number) (x .0)) (numbers-below count os (x .1))
 
--- the set of a sleeper is live: its array has an operation
-pub alive : (sets : List Set) (s : Sleeper) → Fits sets s → 0 < countAt sets (s .slot)
+-- a sleeper's array has an operation: what holds of all holds of its first
+pub at-first : {P : Operation → Type 0} (sets : List Set) (s : Sleeper) → Fits sets s → All P (operationsOf (s .array)) → P (operationAt (s .array) 0)
 unfolding operationsFrom
-alive sets s f = go (length (s .array) / operationBytes) refl (f .numbers)
+at-first {P} sets s f = go (length (s .array) / operationBytes) refl
   where
-    go : (n : ℕ) → length (s .array) / operationBytes ≡ n → All (λ (o : Operation). o .number < countAt sets (s .slot)) (operationsFrom (s .array) 0 n)
-        → 0 < countAt sets (s .slot)
+    go : (n : ℕ) → length (s .array) / operationBytes ≡ n → All P (operationsFrom (s .array) 0 n) → P (operationAt (s .array) 0)
     go zero e h = absurd (omega (arith, f .some, f .whole))
-    go (suc n) e h = let x : operationAt (s .array) 0 .number < countAt sets (s .slot) = first h in omega arith
+    go (suc n) e h = first h
+
+-- .. so its set is live
+pub alive : (sets : List Set) (s : Sleeper) → Fits sets s → 0 < countAt sets (s .slot)
+alive sets s f = let x : operationAt (s .array) 0 .number < countAt sets (s .slot) = at-first sets s f (f .numbers) in omega arith
 
 -- ---- create
 
@@ -137,7 +141,7 @@ operate-passes s p i bytes e =
       others = awake p (s .queue) (b .0);
     }
 
--- ---- set value, query and remove
+-- ---- set value and query
 
 pub record InSet (s : State) (i : ℤ) (n : ℕ) : Type 0 where
   pub slot : slotOf i < slots
@@ -165,6 +169,51 @@ setValue-passes s i n v e =
     let a = passes _ 22 _ (zero-lt-suc _) e in
     let b = passes _ 34 0 (zero-lt-suc _) (a .1) in
     record { numbered = number-passes s i n (eqb-true (checkNumber s i n) 0 (not-false _ (a .0))); value = in-range v (not-false _ (b .0)) }
+
+-- ---- set all
+
+length-held : (vs : List ℤ) → length (held vs) ≡ length vs
+unfolding held
+length-held [] = refl
+length-held (v ∷ vs) = ap suc (length-held vs)
+
+length-values : (bytes : List ℕ) (at n : ℕ) → length (valuesFrom bytes at n) ≡ n
+unfolding valuesFrom
+length-values bytes at zero = refl
+length-values bytes at (suc n) = ap suc (length-values bytes (at + valueBytes) n)
+
+all-in-range : (vs : List ℤ) → allInRange vs ≡ true → All (λ (v : ℕ). v ≤ valueMax) (held vs)
+unfolding allInRange held
+all-in-range [] e = none
+all-in-range (v ∷ vs) e = let x = and-true (inRange v) (allInRange vs) e in also (in-range v (x .0)) (all-in-range vs (x .1))
+
+wholes : (size n : ℕ) → size ≡ valueBytes * n → size / valueBytes ≡ n
+wholes size n e = omega arith
+
+pub record AllAssignable (s : State) (i : ℤ) (bytes : List ℕ) : Type 0 where
+  pub named : Named (s .sets) i
+  pub size : length bytes ≡ valueBytes * countAt (s .sets) (slotOf i)
+  pub count : length (held (valuesIn bytes)) ≡ countAt (s .sets) (slotOf i)
+  pub range : allInRange (valuesIn bytes) ≡ true
+  pub values : All (λ (v : ℕ). v ≤ valueMax) (held (valuesIn bytes))
+
+pub setAll-passes : (s : State) (i : ℤ) (bytes : List ℕ) → checkSetAll s i bytes ≡ 0 → AllAssignable s i bytes
+unfolding checkSetAll
+setAll-passes s i bytes e =
+    let a = passes _ 22 _ (zero-lt-suc _) e in
+    let b = passes _ 22 _ (zero-lt-suc _) (a .1) in
+    let c = passes _ 34 0 (zero-lt-suc _) (b .1) in
+    let size : length bytes ≡ valueBytes * countAt (s .sets) (slotOf i) = eqb-true _ _ (not-false _ (b .0)) in
+    let range : allInRange (valuesIn bytes) ≡ true = not-false _ (c .0) in
+    record {
+      named = names-live (s .sets) i (not-false _ (a .0));
+      size = size;
+      count = length-held (valuesIn bytes) ∙ length-values bytes 0 (length bytes / valueBytes) ∙ wholes (length bytes) (countAt (s .sets) (slotOf i)) size;
+      range = range;
+      values = all-in-range (valuesIn bytes) range;
+    }
+
+-- ---- remove, read all, and a whole set
 
 pub set-passes : (s : State) (i : ℤ) → checkSet s i ≡ 0 → Named (s .sets) i
 unfolding checkSet

@@ -21,10 +21,10 @@ use Rattle.model.specs.State.{Table, Sleeper, row, undoRow, clearRows, c
 use Rattle.model.specs.Operation.{operationsOf}
 use Rattle.model.specs.Look.{copiesOf, look, lastsAfter, applied, after}
 use Rattle.model.specs.Waking.{World, waker, finish}
-use Rattle.model.specs.Events.{clearNumber, assigned, cut, undoAll, exited}
+use Rattle.model.specs.Events.{clearNumber, assigned, assignedAll, cut, undoAll, exited}
 use Rattle.model.specs.Runs.{All}
 use Rattle.model.specs.Invariant.{Good, Fits, Unused, Clean, Calm, countAt}
-use Rattle.model.proofs.Lists.{first, rest, all-map, all-zip, all-at, getD-slice, getD-paste, getD-set}
+use Rattle.model.proofs.Lists.{first, rest, all-map, all-zip, all-at, getD-slice, getD-paste, getD-set, getD-sets-beside}
 use Rattle.model.proofs.JudgeLaws.{Fine, Idle, judge-idle}
 use Rattle.model.proofs.LookLaws.{getD-values, getD-adjustments, look-fine, numbers-fit}
 use Rattle.model.proofs.TableLaws.{length-clearRows, clearRows-other}
@@ -123,6 +123,34 @@ assigned-clean sets t slot n v hs hc hn clean slot′ n′ hs′ hc′ hn′ =
         let es : slot′ ≡ slot = omega (arith, e) in
         let low : countAt sets slot ≤ n′ = rw es at hc′ in
         omega (arith, e)
+
+-- ---- set all
+
+clearRows-zero : (i slot : ℕ) (l : List ℤ) (j : ℕ) → i ≤ processes → slot < slots → length l ≡ allAdjustments → getD l j (pos 0) ≡ pos 0 → getD (clearRows i slot l) j (pos 0) ≡ pos 0
+unfolding clearRows
+clearRows-zero zero slot l j hi hs e h = h
+clearRows-zero (suc i) slot l j hi hs e h =
+    let r : length (clearRows i slot l) ≡ allAdjustments = length-clearRows i slot l (omega arith) hs e in
+    getD-paste ZeroZ (clearRows i slot l) (undoRow (suc i) slot) (replicate semaphores (pos 0)) semaphores j (pos 0) (omega arith) (omega (arith, length-replicate semaphores (pos 0)))
+    (λ beside. clearRows-zero i slot l j (omega arith) hs e h) (λ k lt m. getD-replicate semaphores k (pos 0) (pos 0) lt)
+
+-- as many values as the set has semaphores
+pub assignedAll-clean : (sets : List Set) (t : Table) (slot : ℕ) (vs : List ℕ) → Good t → slot < slots → length vs ≡ countAt sets slot → length vs ≤ semaphores → Clean sets t → Clean sets (assignedAll t slot vs)
+unfolding assignedAll
+assignedAll-clean sets t slot vs g hs count few clean slot′ n hs′ hc hn =
+    let u : Unused t slot′ n = clean slot′ n hs′ hc hn in
+    record {
+      value = getD-sets-beside (t .values) (row slot) vs (row slot′ + n) 0 beside ∙ u .value;
+      last = u .last;
+      adjustment = λ p hp hq. clearRows-zero processes slot (t .adjustments) (undoRow p slot′ + n) (omega arith) hs (g .adjustments) (u .adjustment p hp hq);
+    }
+  where
+    beside : row slot ≤ row slot′ + n → row slot + length vs ≤ row slot′ + n
+    beside le = go (eqb slot′ slot) refl
+      where
+        go : (b : Bool) → eqb slot′ slot ≡ b → row slot + length vs ≤ row slot′ + n
+        go true e = let z : slot′ ≡ slot = eqb-true slot′ slot e in let low : countAt sets slot ≤ n = rw z at hc in omega (arith, count)
+        go false e = let ne : slot′ ≢ slot = eqb-false slot′ slot e in omega (arith, ne)
 
 -- ---- create and remove
 

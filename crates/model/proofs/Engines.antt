@@ -12,7 +12,7 @@ use Rattle.model.specs.Limits.{slots, allSemaphores, allAdjustments}
 use Rattle.model.specs.State.{Sleeper, State, freshState, noSet}
 use Rattle.model.specs.Waking.{waker}
 use Rattle.model.specs.Checks.{slotOf, freeSlot, checkCreate, checkNumber, checkSet, checkProcess}
-use Rattle.model.specs.Events.{Event, create, operate, setValue, remove, signal, exit, query, event, keep, doCreate, doRemove, doSignal, doQuery, notOf, notMine}
+use Rattle.model.specs.Events.{Event, create, operate, setValue, remove, signal, exit, query, setAll, readAll, event, keep, doCreate, doRemove, doSignal, doQuery, doReadAll, notOf, notMine}
 use Rattle.model.specs.Runs.{Run, run, Reached, start, came, none, Pairwise, end, next, Alike, EnginesAgree}
 use Rattle.model.specs.Invariant.{Fits, Invariant, alone, countAt}
 use Rattle.model.proofs.Lists.{all-map, all-replicate}
@@ -21,7 +21,7 @@ use Rattle.model.proofs.CleanLaws.{fresh-clean}
 use Rattle.model.proofs.CheckLaws.{alive, Creatable, create-passes, set-passes}
 use Rattle.model.proofs.Agree.{slot-other}
 use Rattle.model.proofs.EventLaws.{Agrees, quiet, checked-agrees, cleared-kept, keep-kept}
-use Rattle.model.proofs.WakingEvents.{operate-agrees, setValue-agrees, exit-agrees}
+use Rattle.model.proofs.WakingEvents.{operate-agrees, setValue-agrees, setAll-agrees, exit-agrees}
 
 -- ---- the events that wake nobody by a rule
 
@@ -50,6 +50,10 @@ query-agrees : (s : State) (i : ℤ) (n : ℕ) → Invariant s → Agrees (doQue
 unfolding doQuery
 query-agrees s j n i = checked-agrees (checkNumber s j n) s _ _ i (λ e. quiet _ refl i)
 
+readAll-agrees : (s : State) (i : ℤ) → Invariant s → Agrees (doReadAll s i) (doReadAll s i)
+unfolding doReadAll
+readAll-agrees s j i = checked-agrees (checkSet s j) s _ _ i (λ e. quiet _ refl i)
+
 -- ---- any event
 
 pub event-agrees : (s : State) (e : Event) → Invariant s → Agrees (event (waker Quick) s e) (event (waker Plain) s e)
@@ -61,6 +65,8 @@ event-agrees s (remove j) i = remove-agrees s j i
 event-agrees s (signal p) i = signal-agrees s p i
 event-agrees s (exit p) i = exit-agrees s p i
 event-agrees s (query j n) i = query-agrees s j n i
+event-agrees s (setAll j bytes) i = setAll-agrees s j bytes i
+event-agrees s (readAll j) i = readAll-agrees s j i
 
 pub event-kept : (engine : Engine) (s : State) (e : Event) → Invariant s → Invariant (event (waker engine) s e .state)
 event-kept Quick s e i = event-agrees s e i .kept

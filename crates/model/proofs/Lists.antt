@@ -7,7 +7,7 @@ use native.Mathlib.Decide.{decLt}
 use mathlib.Core.Path.{_≡_, refl, sym, ap, _∙_}
 use mathlib.Core.List.{List, [], _∷_, _++_}
 use lib.ListN.{length, getD, set, take, drop, replicate, length-append, List·getD-append}
-use lib.Seq.{slice, paste, drop-cons, getD-take, getD-drop, getD-append-add, drop-paste, length-take-le}
+use lib.Seq.{slice, paste, sets, drop-cons, getD-take, getD-drop, getD-append-add, getD-set-other, drop-paste, length-take-le}
 use Rattle.model.specs.Waking.{without}
 use Rattle.model.specs.Runs.{All, none, also}
 
@@ -62,6 +62,10 @@ module _ {A : Type 0} where
   all-set [] n x h px = h
   all-set (y ∷ l) zero x h px = also px (rest h)
   all-set (y ∷ l) (suc n) x h px = also (first h) (all-set l n x (rest h) px)
+
+  pub all-sets : {P : A → Type 0} (l : List A) (n : ℕ) (vs : List A) → All P l → All P vs → All P (sets l n vs)
+  all-sets l n [] h k = h
+  all-sets l n (x ∷ vs) h k = all-sets (set l n x) (suc n) vs (all-set l n x h (first k)) (rest k)
 
   pub all-take : {P : A → Type 0} (n : ℕ) (l : List A) → All P l → All P (take n l)
   all-take zero l h = none
@@ -158,6 +162,13 @@ module _ {A : Type 0} where
   getD-set P (y ∷ l) zero a (suc j) x h k = h
   getD-set P (y ∷ l) (suc i) a zero x h k = h
   getD-set P (y ∷ l) (suc i) a (suc j) x h k = getD-set P l i a j x h (λ e. k (ap suc e))
+
+  -- a place beside a run of stores
+  pub getD-sets-beside : (l : List A) (i : ℕ) (vs : List A) (j : ℕ) (x : A) → (i ≤ j → i + length vs ≤ j) → getD (sets l i vs) j x ≡ getD l j x
+  getD-sets-beside l i [] j x h = refl
+  getD-sets-beside l i (v ∷ vs) j x h =
+      getD-sets-beside (set l i v) (suc i) vs j x (λ le. omega (arith, h (omega arith)))
+      ∙ getD-set-other l i j v x (λ e. omega (arith, e, h (omega (arith, e))))
 
   pub set-alike : (d : A) (u v : List A) (n : ℕ) (x : A) (j : ℕ) → length u ≡ length v → getD u j d ≡ getD v j d → getD (set u n x) j d ≡ getD (set v n x) j d
   set-alike d [] [] n x j e h = refl

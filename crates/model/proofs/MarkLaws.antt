@@ -1,7 +1,8 @@
 -- Masks of processes and of semaphores: who is marked, what is named, which values differ.
-use Prim.Native.Nat.{ℕ, zero, suc, _+_, _-_, _^_, _≤_}
+use Prim.Native.Nat.{ℕ, zero, suc, _+_, _-_, _^_, _≤_, _<_}
 use native.Mathlib.Nat.{suc-inj, suc-ne-zero}
 use native.Mathlib.Omega.{arith}
+use native.Mathlib.Decide.{decLt}
 use mathlib.Core.Path.{_≡_, refl, sym, ap, _∙_}
 use mathlib.Core.Bool.{Bool, true, false, cond}
 use mathlib.Core.List.{List, [], _∷_}
@@ -12,7 +13,7 @@ use borrow.Author.Tests.{eqb-true, eq-eqb}
 use Rattle.model.specs.declared.Operation.{Operation}
 use Rattle.model.specs.State.{Sleeper}
 use Rattle.model.specs.Operation.{operationsOf, hasBit}
-use Rattle.model.specs.Marks.{bitOf, marked, unmark, namedBy, named, differing, maskOf}
+use Rattle.model.specs.Marks.{bitOf, marked, unmark, namedBy, named, differing, everyNumber, maskOf}
 use Rattle.model.specs.Runs.{All, none, also}
 use Rattle.model.proofs.Lists.{all-map}
 use Rattle.model.specs.Invariant.{Other}
@@ -94,6 +95,17 @@ named-all m (o ∷ os) = also (named-keeps (bitOr m (2 ^ (o .number))) os (o .nu
 -- an array that names no touched semaphore
 pub untouched : (s : Sleeper) (touched : ℕ) → hasBit (named s) touched ≡ false → All (λ (o : Operation). bit touched (o .number) ≡ 0) (operationsOf (s .array))
 untouched s touched h = all-map (λ o e. hasBit-none (named s) touched (o .number) h e) (named-all 0 (operationsOf (s .array)))
+
+-- ---- every number of a set
+
+pub every-bit : (count n : ℕ) → n < count → bit (everyNumber count) n ≡ 1
+unfolding everyNumber
+every-bit zero n h = absurd (omega arith)
+every-bit (suc count) n h = go (decLt n count) (every-bit count n)
+  where
+    go : Dec (n < count) → (n < count → bit (everyNumber count) n ≡ 1) → bit (bitOr (everyNumber count) (2 ^ count)) n ≡ 1
+    go (yes lt) before = bit-or-keeps (everyNumber count) (2 ^ count) n (before lt)
+    go (no ge) before = let e : n ≡ count = omega arith in rw e (bit-or-same (everyNumber count) count)
 
 -- ---- values that differ
 

@@ -26,8 +26,8 @@ use Rattle.model.specs.Operation.{operationsFrom, operationsOf}
 use Rattle.model.specs.Judge.{judged, step, goOn, judgeFrom, judge, codeOf, decidedAt, deciderOf, finishes}
 use Rattle.model.specs.Look.{copiesOf, look}
 use Rattle.model.specs.Waking.{World, Ended, Waker, waker, waking, finish}
-use Rattle.model.specs.Checks.{live, slotOf, checkCreate, checkOperate, checkNumber, checkSetValue, checkSet, checkProcess}
-use Rattle.model.specs.Events.{Event, create, operate, setValue, remove, signal, exit, query, Result, checked, endedWith, operated, call, treat, treatFrom, event, doCreate, doOperate, doSetValue, doRemove, doSignal, doExit, doQuery}
+use Rattle.model.specs.Checks.{live, slotOf, checkCreate, checkOperate, checkNumber, checkSetValue, checkSetAll, checkSet, checkProcess}
+use Rattle.model.specs.Events.{Event, create, operate, setValue, remove, signal, exit, query, setAll, readAll, Result, checked, endedWith, operated, call, treat, treatFrom, event, doCreate, doOperate, doSetValue, doRemove, doSignal, doExit, doQuery, doSetAll, doReadAll}
 use Rattle.model.specs.Runs.{All, none, also}
 use Rattle.model.specs.Invariant.{Fits}
 use Rattle.model.specs.Positions.{Decides, WakingNamed, done, again, range, removed, signalled, CallNamed, Named, Names}
@@ -223,7 +223,7 @@ module _ (wake : Waker) (s : State) (p : ℕ) (i : ℤ) (bytes : List ℕ) where
       }
 
 answer-named : (engine : Engine) (s : State) (e : Event) → Named s e (event (waker engine) s e .answer)
-unfolding event doCreate doOperate doSetValue doRemove doSignal doExit doQuery
+unfolding event doCreate doOperate doSetValue doRemove doSignal doExit doQuery doSetAll doReadAll
 answer-named engine s (create count read alter) = checked-named (checkCreate s count) s _ (λ at. at ≡ Nowhere) refl refl
 answer-named engine s (operate p i bytes) = call-named (waker engine) s p i bytes
 answer-named engine s (setValue i n v) = checked-named (checkSetValue s i n v) s _ (λ at. at ≡ Nowhere) refl refl
@@ -231,6 +231,8 @@ answer-named engine s (remove i) = checked-named (checkSet s i) s _ (λ at. at �
 answer-named engine s (signal p) = checked-named (checkProcess p) s _ (λ at. at ≡ Nowhere) refl refl
 answer-named engine s (exit p) = checked-named (checkProcess p) s _ (λ at. at ≡ Nowhere) refl refl
 answer-named engine s (query i n) = checked-named (checkNumber s i n) s _ (λ at. at ≡ Nowhere) refl refl
+answer-named engine s (setAll i bytes) = checked-named (checkSetAll s i bytes) s _ (λ at. at ≡ Nowhere) refl refl
+answer-named engine s (readAll i) = checked-named (checkSet s i) s _ (λ at. at ≡ Nowhere) refl refl
 
 -- ---- wakings
 
@@ -275,7 +277,7 @@ operated-wakings engine s c Again at copies = none
 operated-wakings engine s c Range at copies = none
 
 wakings-named : (engine : Engine) (s : State) (e : Event) → All WakingNamed (event (waker engine) s e .wakings)
-unfolding event doCreate doOperate doSetValue doRemove doSignal doExit doQuery
+unfolding event doCreate doOperate doSetValue doRemove doSignal doExit doQuery doSetAll doReadAll
 wakings-named engine s (create count read alter) = checked-wakings (checkCreate s count) s _ none
 wakings-named engine s (operate p i bytes) = checked-wakings (checkOperate s p i bytes) s _ (operated-wakings engine s (call p i bytes) _ _ _)
 wakings-named engine s (setValue i n v) = checked-wakings (checkSetValue s i n v) s _ (wake-named engine (slotOf i) _ _ 0 none)
@@ -283,6 +285,8 @@ wakings-named engine s (remove i) = checked-wakings (checkSet s i) s _ (ended-na
 wakings-named engine s (signal p) = checked-wakings (checkProcess p) s _ (ended-named (pos 4) _ (s .queue) signalled)
 wakings-named engine s (exit p) = checked-wakings (checkProcess p) s _ (treat-named engine (s .sets) 0 _ _ none)
 wakings-named engine s (query i n) = checked-wakings (checkNumber s i n) s _ none
+wakings-named engine s (setAll i bytes) = checked-wakings (checkSetAll s i bytes) s _ (wake-named engine (slotOf i) _ _ 0 none)
+wakings-named engine s (readAll i) = checked-wakings (checkSet s i) s _ none
 
 -- in any state, in either engine
 pub event-names : (engine : Engine) (s : State) (e : Event) → Names s e (event (waker engine) s e)

@@ -12,8 +12,8 @@ use Rattle.model.specs.declared.Engine.{Engine}
 use Rattle.model.specs.State.{State, Sleeper}
 use Rattle.model.specs.Judge.{codeOf}
 use Rattle.model.specs.Waking.{Waker, waker}
-use Rattle.model.specs.Checks.{checkCreate, checkOperate, checkNumber, checkSetValue, checkSet, checkProcess}
-use Rattle.model.specs.Events.{Event, create, operate, setValue, remove, signal, exit, query, Result, refusedAt, checked, operated, event, doCreate, doOperate, doSetValue, doRemove, doSignal, doExit, doQuery}
+use Rattle.model.specs.Checks.{checkCreate, checkOperate, checkNumber, checkSetValue, checkSetAll, checkSet, checkProcess}
+use Rattle.model.specs.Events.{Event, create, operate, setValue, remove, signal, exit, query, setAll, readAll, Result, refusedAt, checked, operated, event, doCreate, doOperate, doSetValue, doRemove, doSignal, doExit, doQuery, doSetAll, doReadAll}
 use Rattle.model.specs.Runs.{RefusedWhole, Refuses}
 
 -- the code of a refusal, and the operation that it names, tell all of it
@@ -38,7 +38,7 @@ operated-refuses wake s c Range at copies = λ code e. same-code s 34 (suc code)
 
 -- Demand 1.
 pub refused-whole : (engine : Engine) (s : State) (e : Event) → RefusedWhole engine s e
-unfolding event doCreate doOperate doSetValue doRemove doSignal doExit doQuery
+unfolding event doCreate doOperate doSetValue doRemove doSignal doExit doQuery doSetAll doReadAll
 refused-whole engine s (create count read alter) = by-check (checkCreate s count) s _ (done _ refl)
 refused-whole engine s (operate p i bytes) = by-check (checkOperate s p i bytes) s _ (operated-refuses (waker engine) s _ _ _ _)
 refused-whole engine s (setValue i n v) = by-check (checkSetValue s i n v) s _ (done _ refl)
@@ -46,3 +46,5 @@ refused-whole engine s (remove i) = by-check (checkSet s i) s _ (done _ refl)
 refused-whole engine s (signal p) = by-check (checkProcess p) s _ (done _ refl)
 refused-whole engine s (exit p) = by-check (checkProcess p) s _ (done _ refl)
 refused-whole engine s (query i n) = by-check (checkNumber s i n) s _ (done _ refl)
+refused-whole engine s (setAll i bytes) = by-check (checkSetAll s i bytes) s _ (done _ refl)
+refused-whole engine s (readAll i) = by-check (checkSet s i) s _ (done _ refl)

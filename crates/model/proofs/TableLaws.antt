@@ -1,4 +1,4 @@
--- What set value, remove, create and exit do to the table: it stays good, and whom they leave stuck.
+-- What set value, set all, remove, create and exit do to the table: it stays good, and whom they leave stuck.
 use Prim.Native.Nat.{ℕ, zero, suc, _+_, _*_, _-_, _^_, _≤_, _<_}
 use native.Mathlib.Omega.{arith}
 use mathlib.Core.Path.{_≡_, refl, sym, ap, _∙_}
@@ -6,7 +6,7 @@ use mathlib.Core.Logic.{_≢_}
 use mathlib.Core.Bool.{Bool, true, false, cond}
 use mathlib.Core.List.{List, [], _∷_}
 use lib.ListN.{length, getD, replicate, length-set, length-replicate}
-use lib.Seq.{length-paste, getD-set-other}
+use lib.Seq.{length-paste, length-sets, getD-set-other}
 use lib.IntN.{ℤ, pos, negsuc, natAbs, _+ℤ_}
 use lib.Signed.{ltZ}
 use borrow.Author.Tests.{ltb-false}
@@ -18,9 +18,9 @@ use Rattle.model.specs.Operation.{operationsOf, hasBit}
 use Rattle.model.specs.Look.{valuesOf}
 use Rattle.model.specs.Marks.{named, differing}
 use Rattle.model.specs.Waking.{couldFinish}
-use Rattle.model.specs.Events.{clearNumber, assigned, cut, undoAll, exited}
+use Rattle.model.specs.Events.{clearNumber, assigned, assignedAll, cut, undoAll, exited}
 use Rattle.model.specs.Runs.{All, none, also}
-use Rattle.model.proofs.Lists.{rest, all-map, all-zip, all-set, all-paste, all-replicate, getD-paste-beside}
+use Rattle.model.proofs.Lists.{rest, all-map, all-zip, all-set, all-sets, all-paste, all-replicate, getD-sets-beside, getD-paste-beside}
 use Rattle.model.specs.Invariant.{Good, Fits, Ranged}
 use Rattle.model.proofs.Bits.{bit, bit-pow-same}
 use Rattle.model.proofs.MarkLaws.{untouched}
@@ -113,6 +113,21 @@ cleared-good t slot g hs =
       ranged = ranged-clearRows processes slot (t .adjustments) (g .ranged);
     }
 
+-- ---- set all
+
+pub assignedAll-good : (t : Table) (slot : ℕ) (vs : List ℕ) → Good t → slot < slots → All (λ (v : ℕ). v ≤ valueMax) vs → Good (assignedAll t slot vs)
+unfolding assignedAll
+assignedAll-good t slot vs g hs small =
+    record {
+      values = length-sets (t .values) (row slot) vs ∙ g .values;
+      lasts = g .lasts;
+      adjustments = length-clearRows processes slot (t .adjustments) (omega arith) hs (g .adjustments);
+      small = all-sets (t .values) (row slot) vs (g .small) small;
+      ranged = ranged-clearRows processes slot (t .adjustments) (g .ranged);
+    }
+
+-- ---- create, remove and set all: the sleepers of other sets
+
 pub clearRows-other : (i slot a b c : ℕ) (l : List ℤ) → i ≤ processes → slot < slots → b < slots → c < semaphores → b ≢ slot → length l ≡ allAdjustments
     → getD (clearRows i slot l) (undoRow a b + c) (pos 0) ≡ getD l (undoRow a b + c) (pos 0)
 unfolding clearRows
@@ -122,21 +137,27 @@ clearRows-other (suc i) slot a b c l hi hs hb hc ne e =
     getD-paste-beside (clearRows i slot l) (undoRow (suc i) slot) (replicate semaphores (pos 0)) semaphores (undoRow a b + c) (pos 0) (omega arith) (omega arith) (λ h. omega arith)
     ∙ clearRows-other i slot a b c l (omega arith) hs hb hc ne e
 
-module _ {sets : List Set} (counts : All (λ (k : Set). k .count ≤ semaphores) sets) (t : Table) (q : Sleeper) (g : Good t) (f : Fits sets q) where
-  -- a sleeper of another set
-  pub cleared-stuck : (slot : ℕ) → slot < slots → q .slot ≢ slot → couldFinish t q ≡ false → couldFinish (cleared t slot) q ≡ false
-  unfolding cleared
-  cleared-stuck slot hs ne =
-      still-stuck counts t (cleared t slot) q g (cleared-good t slot g hs) f (all-map value (numbers-fit counts q f)) (all-map undo (numbers-fit counts q f))
+module _ {sets : List Set} (counts : All (λ (k : Set). k .count ≤ semaphores) sets) (t : Table) (q : Sleeper) (g : Good t) (f : Fits sets q) (slot : ℕ) (hs : slot < slots) (ne : q .slot ≢ slot) where
+  -- a sleeper of another set, where the adjustments of a slot are cleared and no value of another changes
+  beside-stuck : (t′ : Table) → Good t′ → t′ .adjustments ≡ clearRows processes slot (t .adjustments)
+      → ((n : ℕ) → n < semaphores → getD (t′ .values) (row (q .slot) + n) 0 ≡ getD (t .values) (row (q .slot) + n) 0) → couldFinish t q ≡ false → couldFinish t′ q ≡ false
+  beside-stuck t′ g′ e same =
+      still-stuck counts t t′ q g g′ f (all-map (λ o ho. sym (same (o .number) ho)) (numbers-fit counts q f)) (all-map undo (numbers-fit counts q f))
     where
-      value : (o : Operation) → o .number < semaphores → SameValue t (cleared t slot) q o
-      value o ho =
-          sym
-          (getD-paste-beside (t .values) (row slot) (replicate semaphores 0) semaphores (row (q .slot) + o .number) 0 (omega (arith, g .values)) (omega arith)
-          (λ h. omega (arith, ne)))
+      undo : (o : Operation) → o .number < semaphores → SameUndo t t′ q o
+      undo o ho = sym (rw e (clearRows-other processes slot (q .process) (q .slot) (o .number) (t .adjustments) (omega arith) hs (f .slot) ho ne (g .adjustments)))
 
-      undo : (o : Operation) → o .number < semaphores → SameUndo t (cleared t slot) q o
-      undo o ho = sym (clearRows-other processes slot (q .process) (q .slot) (o .number) (t .adjustments) (omega arith) hs (f .slot) ho ne (g .adjustments))
+  pub cleared-stuck : couldFinish t q ≡ false → couldFinish (cleared t slot) q ≡ false
+  unfolding cleared
+  cleared-stuck =
+      beside-stuck (cleared t slot) (cleared-good t slot g hs) refl
+      (λ n hn. getD-paste-beside (t .values) (row slot) (replicate semaphores 0) semaphores (row (q .slot) + n) 0 (omega (arith, g .values)) (omega arith) (λ h. omega (arith, ne)))
+
+  pub assignedAll-stuck : (vs : List ℕ) → length vs ≤ semaphores → All (λ (v : ℕ). v ≤ valueMax) vs → couldFinish t q ≡ false → couldFinish (assignedAll t slot vs) q ≡ false
+  unfolding assignedAll
+  assignedAll-stuck vs few small =
+      beside-stuck (assignedAll t slot vs) (assignedAll-good t slot vs g hs small) refl
+      (λ n hn. getD-sets-beside (t .values) (row slot) vs (row (q .slot) + n) 0 (λ h. omega (arith, ne)))
 
 -- ---- exit
 

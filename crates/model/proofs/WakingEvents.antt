@@ -1,4 +1,4 @@
--- The events that wake by a rule: operate, set value and exit give the same in both engines, and keep the invariant.
+-- The events that wake by a rule: operate, set value, set all and exit give the same in both engines, and keep the invariant.
 use Prim.Native.Nat.{ℕ, zero, suc, _+_, _-_, _^_, _≤_, _<_}
 use native.Mathlib.Omega.{arith}
 use native.Mathlib.Decide.{decLt}
@@ -9,6 +9,7 @@ use mathlib.Core.List.{List, [], _∷_}
 use lib.ListN.{length, getD}
 use lib.IntN.{ℤ, natAbs}
 use borrow.Author.Tests.{ltb-false, eqb-false, not-true}
+use Rattle.model.specs.declared.Set.{Set}
 use Rattle.model.specs.declared.Operation.{Operation}
 use Rattle.model.specs.declared.Outcome.{Outcome}
 use Rattle.model.specs.declared.Outcome.the-variants.{Done, Sleep, Again, Range}
@@ -21,19 +22,21 @@ use Rattle.model.specs.State.{Table, Sleeper, State}
 use Rattle.model.specs.Operation.{operationsOf, hasBit}
 use Rattle.model.specs.Judge.{deciderOf, finishes}
 use Rattle.model.specs.Look.{look, applied, valuesOf}
-use Rattle.model.specs.Marks.{mine, named, differing}
+use Rattle.model.specs.Marks.{mine, named, differing, everyNumber}
 use Rattle.model.specs.Waking.{World, Ended, couldFinish, waker}
-use Rattle.model.specs.Checks.{live, slotOf, checkOperate, checkSetValue, checkProcess}
-use Rattle.model.specs.Events.{wokenAs, world, operated, call, doOperate, assigned, doSetValue, exited, keep, treat, treatFrom, touchedFrom, doExit, notOf}
+use Rattle.model.specs.Values.{valuesIn, held}
+use Rattle.model.specs.Checks.{live, slotOf, checkOperate, checkSetValue, checkSetAll, checkProcess}
+use Rattle.model.specs.Events.{wokenAs, world, operated, call, doOperate, assigned, doSetValue, assignedAll, doSetAll, exited, keep, treat, treatFrom, touchedFrom, doExit, notOf}
 use Rattle.model.specs.Runs.{All, none, also}
 use Rattle.model.proofs.Lists.{all-map, all-zip, all-zip3, all-append}
 use Rattle.model.specs.Invariant.{Good, Clean, Fits, Other, Invariant, countAt}
+use Rattle.model.proofs.MarkLaws.{untouched, every-bit}
 use Rattle.model.proofs.JudgeLaws.{Fine}
 use Rattle.model.proofs.LookLaws.{count-fits, numbers-fit, look-fine, applied-good, applied-undo, applied-value, still-stuck, unconcerned-stuck}
 use Rattle.model.proofs.QueueLaws.{few, distinct-snoc, keep-test}
-use Rattle.model.proofs.TableLaws.{assigned-good, assigned-stuck, unnamed-other, exited-good, exited-stuck}
-use Rattle.model.proofs.CleanLaws.{looked-clean, assigned-clean, exited-clean, wake-clean}
-use Rattle.model.proofs.CheckLaws.{alive, Operable, operate-passes, Assignable, setValue-passes, process-passes}
+use Rattle.model.proofs.TableLaws.{assigned-good, assigned-stuck, unnamed-other, assignedAll-good, assignedAll-stuck, exited-good, exited-stuck}
+use Rattle.model.proofs.CleanLaws.{looked-clean, assigned-clean, assignedAll-clean, exited-clean, wake-clean}
+use Rattle.model.proofs.CheckLaws.{alive, at-first, Operable, operate-passes, Assignable, setValue-passes, AllAssignable, setAll-passes, process-passes}
 use Rattle.model.proofs.Rules.{tame}
 use Rattle.model.specs.Invariant.{Calm}
 use Rattle.model.proofs.Calm.{wake-calm, treatFrom-looked, looks-36, fromSlot}
@@ -148,6 +151,36 @@ setValue-agrees s j n v i = checked-agrees (checkSetValue s j n v) s _ _ i (λ e
         (assigned-clean (s .sets) (s .table) (slotOf j) n (natAbs v) (a .numbered .slot) (a .numbered .number) (fits a) (i .clean))
         (all-zip (λ q f st e m. stuck a q f (all-map (λ o h z. absurd (slot-other (slotOf j) q e z)) (numbers-fit (i .counts) q f)) st) (i .fits) (i .stuck))
         (all-zip (λ q f st e un. stuck a q f (all-map (λ o h z. h) (unnamed-other q n un)) st) (i .fits) (i .stuck))
+
+-- ---- set all
+
+-- every sleeper of the set names one of its numbers
+every-concerned : (sets : List Set) (slot : ℕ) (q : Sleeper) → Fits sets q → mine slot q ≡ true → hasBit (named q) (everyNumber (countAt sets slot)) ≡ false → ⊥
+every-concerned sets slot q f e un =
+    let numbers : All (λ (o : Operation). o .number < countAt sets slot) (operationsOf (q .array)) = rw (slot-mine slot q e) at (f .numbers) in
+    at-first {P = λ o. ⊥} sets q f (all-zip (λ o lt z. omega (arith, z, every-bit (countAt sets slot) (o .number) lt)) numbers (untouched q (everyNumber (countAt sets slot)) un))
+
+pub setAll-agrees : (s : State) (i : ℤ) (bytes : List ℕ) → Invariant s → Agrees (doSetAll (waker Quick) s i bytes) (doSetAll (waker Plain) s i bytes)
+unfolding doSetAll
+setAll-agrees s j bytes i = checked-agrees (checkSetAll s j bytes) s _ _ i (λ e. does (setAll-passes s j bytes e))
+  where
+    slot : ℕ
+    slot = slotOf j
+
+    vs : List ℕ
+    vs = held (valuesIn bytes)
+
+    t : Table
+    t = assignedAll (s .table) (slotOf j) (held (valuesIn bytes))
+
+    does : AllAssignable s j bytes
+        → Agrees (wokenAs s (waker Quick (slotOf j) (everyNumber (countAt (s .sets) (slotOf j))) (world t (s .queue)) 0)) (wokenAs s (waker Plain (slotOf j) (everyNumber (countAt (s .sets) (slotOf j))) (world t (s .queue)) 0))
+    does a =
+        let few : length vs ≤ semaphores = omega (arith, a .count, count-fits (i .counts) (slotOf j)) in
+        treated s slot (everyNumber (countAt (s .sets) slot)) t i (assignedAll-good (s .table) slot vs (i .good) (a .named .slot) (a .values))
+        (assignedAll-clean (s .sets) (s .table) slot vs (i .good) (a .named .slot) (a .count) few (i .clean))
+        (all-zip (λ q f st e m. assignedAll-stuck (i .counts) (s .table) q (i .good) f slot (a .named .slot) (slot-other slot q e) vs few (a .values) st) (i .fits) (i .stuck))
+        (all-map (λ q f e un. absurd (every-concerned (s .sets) slot q f e un)) (i .fits))
 
 -- ---- exit
 

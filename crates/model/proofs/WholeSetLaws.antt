@@ -1,5 +1,5 @@
--- A whole set: at each number it shows what a query of that semaphore shows, beyond the set's count zeros, and its counts add
--- up to the number of arrays that were judged.
+-- A whole set: at each number it shows what a query of that semaphore shows, beyond the set's count zeros; it shows what a
+-- reading answers; and its counts add up to the number of arrays that were judged.
 use Prim.Native.Nat.{ℕ, zero, suc, _+_, _≤_, _<_}
 use native.Mathlib.Nat.{le-of-suc-le-suc}
 use native.Mathlib.Omega.{arith}
@@ -12,6 +12,7 @@ use lib.ListN.{length, getD}
 use lib.Seq.{ext-getD}
 use borrow.Author.Tests.{eqb-true, eqb-false, ne-eqb}
 use Rattle.model.specs.declared.Operation.{Operation}
+use Rattle.model.specs.declared.QueriedSet.{QueriedSet}
 use Rattle.model.specs.Limits.{slots, semaphores}
 use Rattle.model.specs.State.{Sleeper, State, row}
 use Rattle.model.specs.Operation.{operationsOf, isNegative}
@@ -20,8 +21,8 @@ use Rattle.model.specs.Marks.{mine, maskOf}
 use Rattle.model.specs.Waking.{couldFinish}
 use Rattle.model.specs.Checks.{check, slotOf, namesSet, checkNumber, checkSet}
 use Rattle.model.specs.Counts.{noOperation, stop, stopsAt, forIncrease, forZero, countOf, judgedAt}
-use Rattle.model.specs.Events.{Seen, Answer, answer, nothingSeen, seenAt, doQuery}
-use Rattle.model.specs.WholeSet.{eachFrom, each, shownAt, setChecked, querySet, total, AsQueried}
+use Rattle.model.specs.Events.{Seen, Answer, Result, answer, checked, nothingSeen, seenAt, doQuery, readAt, readFrom, doReadAll}
+use Rattle.model.specs.WholeSet.{eachFrom, each, shownAt, setChecked, querySet, readsFrom, total, AsQueried, AsRead}
 use Rattle.model.specs.Runs.{All, none, also, Reached, Stuck}
 use Rattle.model.specs.Invariant.{Invariant, countAt}
 use Rattle.model.proofs.Lists.{all-map, all-getD}
@@ -77,6 +78,27 @@ module _ (s : State) (i : ℤ) (n : ℕ) where
       named : (b : Bool) (later : ℕ) → check (not b) 22 later ≡ 0 → check (not b) 22 0 ≡ 0
       named true later e = refl
       named false later e = e
+
+-- ---- what a reading answers
+
+reads-shown : (s : State) (slot k n : ℕ) → k + n ≤ semaphores → readFrom s slot k n ≡ readsFrom (shownAt s slot .values) (shownAt s slot .increase) (shownAt s slot .zero) k n
+unfolding readFrom readsFrom readAt shownAt
+reads-shown s slot k zero h = refl
+reads-shown s slot k (suc n) h =
+    let small : k < semaphores = omega arith in
+    rw (each-at (λ (m : ℕ). getD (s .table .values) (row slot + m) 0) k small, each-at (λ (m : ℕ). seenAt s slot m .increase) k small, each-at (λ (m : ℕ). seenAt s slot m .zero) k small,
+    reads-shown s slot (k + 1) n (omega arith))
+
+read-checked : (code : ℕ) (s : State) (does : Result) (shown : QueriedSet) → AsRead (does .answer) shown → AsRead (checked code s does .answer) (setChecked code shown)
+unfolding readsFrom
+read-checked zero s does shown h = h
+read-checked (suc code) s does shown h = record { code = refl; all = refl }
+
+pub set-as-read : (s : State) → Reached s → (i : ℤ) → AsRead (doReadAll s i .answer) (querySet s i)
+unfolding doReadAll querySet shownAt
+set-as-read s r i =
+    read-checked (checkSet s i) s _ (shownAt s (slotOf i))
+    (record { code = refl; all = reads-shown s (slotOf i) 0 (countAt (s .sets) (slotOf i)) (omega (arith, count-fits (reached r .counts) (slotOf i))) })
 
 -- ---- where a sleeper of a state stops: at a semaphore that its set has
 

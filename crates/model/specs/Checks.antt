@@ -7,10 +7,11 @@ use lib.ListN.{length, getD}
 use lib.IntN.{ℤ, pos, negsuc}
 use Rattle.model.specs.declared.Set.{Set}
 use Rattle.model.specs.declared.Operation.{Operation}
-use Rattle.model.specs.Limits.{slots, semaphores, processes, operations, valueMax, operationBytes}
+use Rattle.model.specs.Limits.{slots, semaphores, processes, operations, valueMax, operationBytes, valueBytes}
 use Rattle.model.specs.State.{State, Sleeper, noSet}
 use Rattle.model.specs.Operation.{operationsOf, hasBit, isZero}
 use Rattle.model.specs.Marks.{bitOf}
+use Rattle.model.specs.Values.{valuesIn}
 
 abbrev pub check : Bool → ℕ → ℕ → ℕ
 check applies code later = cond applies code later
@@ -92,7 +93,20 @@ checkSetValue s i n v =
     check (not (eqb (checkNumber s i n) 0)) 22
     (check (not (inRange v)) 34 0)
 
--- remove, and a whole set: "no live set: 22"
+-- is every value?
+unfoldable pub allInRange : List ℤ → Bool
+allInRange [] = true
+allInRange (v ∷ vs) = inRange v && allInRange vs
+
+-- set all: "22 if the number of values isn't the set's count or no live set is named (22 is tested first)", "34 if any value is
+-- outside 0 to 32,767"; bytes that are no whole values are no such number
+unfoldable pub checkSetAll : State → ℤ → List ℕ → ℕ
+checkSetAll s i bytes =
+    check (not (namesSet (s .sets) i)) 22
+    (check (not (eqb (length bytes) (valueBytes * getD (s .sets) (slotOf i) noSet .count))) 22
+    (check (not (allInRange (valuesIn bytes))) 34 0))
+
+-- remove, read all, and a whole set: "no live set: 22"
 unfoldable pub checkSet : State → ℤ → ℕ
 checkSet s i = check (not (namesSet (s .sets) i)) 22 0
 

@@ -1,10 +1,10 @@
--- The seven events. The engines differ in the waker only.
+-- The nine events. The engines differ in the waker only.
 use Prim.Native.Nat.{ℕ, zero, suc, _+_, _%_, _^_}
 use mathlib.Core.Bool.{Bool, true, false, cond, not}
 use mathlib.Core.List.{List, [], _∷_, _++_}
 use lib.Dec.{eqb}
 use lib.ListN.{getD, set, replicate}
-use lib.Seq.{slice, paste}
+use lib.Seq.{slice, paste, sets}
 use lib.IntN.{ℤ, pos, natAbs, _+ℤ_}
 use lib.Signed.{ltZ}
 use Rattle.model.specs.declared.Set.{Set}
@@ -15,14 +15,15 @@ use Rattle.model.specs.declared.Position.the-variants.{Nowhere}
 use Rattle.model.specs.declared.Copies.{Copies}
 use Rattle.model.specs.declared.Waking.{Waking}
 use Rattle.model.specs.declared.Event as declared
-use Rattle.model.specs.declared.Event.the-variants.{Create, Operate, SetValue, Remove, Signal, Exit, Query}
+use Rattle.model.specs.declared.Event.the-variants.{Create, Operate, SetValue, Remove, Signal, Exit, Query, SetAll, ReadAll}
 use Rattle.model.specs.Limits.{slots, processes, valueMax, allSemaphores}
-use Rattle.model.specs.State.{Table, withValues, withAdjustments, Sleeper, State, row, undoRow, cleared, freeSet, noSet}
+use Rattle.model.specs.State.{Table, withValues, withAdjustments, Sleeper, State, row, undoRow, clearRows, cleared, freeSet, noSet}
 use Rattle.model.specs.Judge.{codeOf, deciderOf}
 use Rattle.model.specs.Look.{look, applied, valuesOf}
-use Rattle.model.specs.Marks.{mine, differing, maskOf}
+use Rattle.model.specs.Marks.{mine, differing, everyNumber, maskOf}
 use Rattle.model.specs.Waking.{World, Ended, Waker, waking}
-use Rattle.model.specs.Checks.{live, identifierOf, slotOf, freeSlot, checkCreate, checkOperate, checkNumber, checkSetValue, checkSet, checkProcess}
+use Rattle.model.specs.Values.{valuesIn, held}
+use Rattle.model.specs.Checks.{live, identifierOf, slotOf, freeSlot, checkCreate, checkOperate, checkNumber, checkSetValue, checkSetAll, checkSet, checkProcess}
 use Rattle.model.specs.Counts.{forIncrease, forZero, countOf}
 
 pub data Event : Type 0 where
@@ -40,26 +41,39 @@ pub data Event : Type 0 where
   exit : ℕ → Event
   -- identifier, number
   query : ℤ → ℕ → Event
+  -- identifier, the bytes of the values
+  setAll : ℤ → List ℕ → Event
+  -- identifier
+  readAll : ℤ → Event
 
--- the event that is meant by one that is handed in, with the bytes beside it; only an operate has operations
+-- the event that is meant by one that is handed in, with the bytes beside it: an operate's operations, or a setting's values
 abbrev pub eventOf : declared.Event → List ℕ → Event
-eventOf (Create count read alter) operations = create count read alter
-eventOf (Operate process identifier) operations = operate process identifier operations
-eventOf (SetValue identifier number value) operations = setValue identifier number value
-eventOf (Remove identifier) operations = remove identifier
-eventOf (Signal process) operations = signal process
-eventOf (Exit process) operations = exit process
-eventOf (Query identifier number) operations = query identifier number
+eventOf (Create count read alter) bytes = create count read alter
+eventOf (Operate process identifier) bytes = operate process identifier bytes
+eventOf (SetValue identifier number value) bytes = setValue identifier number value
+eventOf (Remove identifier) bytes = remove identifier
+eventOf (Signal process) bytes = signal process
+eventOf (Exit process) bytes = exit process
+eventOf (Query identifier number) bytes = query identifier number
+eventOf (SetAll identifier) bytes = setAll identifier bytes
+eventOf (ReadAll identifier) bytes = readAll identifier
 
--- a query alone is answered with what it saw; any other event tells
-abbrev pub isQuery : Event → Bool
-isQuery (create count read alter) = false
-isQuery (operate process identifier operations) = false
-isQuery (setValue identifier number value) = false
-isQuery (remove identifier) = false
-isQuery (signal process) = false
-isQuery (exit process) = false
-isQuery (query identifier number) = true
+-- how an event is answered: a query with what it saw, a reading with what it read, any other with what it tells
+pub data Form : Type 0 where
+  asTold : Form
+  asSeen : Form
+  asRead : Form
+
+abbrev pub formOf : Event → Form
+formOf (create count read alter) = asTold
+formOf (operate process identifier operations) = asTold
+formOf (setValue identifier number value) = asTold
+formOf (remove identifier) = asTold
+formOf (signal process) = asTold
+formOf (exit process) = asTold
+formOf (query identifier number) = asSeen
+formOf (setAll identifier values) = asTold
+formOf (readAll identifier) = asRead
 
 -- what a query shows beside the value; zeros in every other answer
 pub record Seen : Type 0 where
@@ -69,12 +83,20 @@ pub record Seen : Type 0 where
   pub increaseMask : ℕ
   pub zeroMask : ℕ
 
--- "an answer is all that an event returns beside state, looks and wakings"; the position is that of the operation that decided
+-- what a reading shows of a semaphore: its value, "and with them both wait counts"
+pub record Read : Type 0 where
+  pub value : ℕ
+  pub increase : ℕ
+  pub zero : ℕ
+
+-- "an answer is all that an event returns beside state, looks and wakings"; the position is that of the operation that decided.
+-- A reading alone shows all semaphores of a set, in order.
 pub record Answer : Type 0 where
   pub code : ℤ
   pub position : Position
   pub value : ℕ
   pub seen : Seen
+  pub all : List Read
 
 pub record Result : Type 0 where
   pub answer : Answer
@@ -87,7 +109,7 @@ nothingSeen = record { last = 0; increase = 0; zero = 0; increaseMask = 0; zeroM
 
 -- "Every other event has value 0."
 abbrev pub answerAt : ℤ → Position → Answer
-answerAt code position = record { code = code; position = position; value = 0; seen = nothingSeen }
+answerAt code position = record { code = code; position = position; value = 0; seen = nothingSeen; all = [] }
 
 -- "A completed array, .. and the checks before judging have no position"
 abbrev pub answer : ℤ → Answer
@@ -121,6 +143,11 @@ clearNumber (suc n) slot number l = set (clearNumber n slot number l) (undoRow (
 unfoldable pub assigned : Table → ℕ → ℕ → ℕ → Table
 assigned t slot number value =
     withAdjustments (withValues t (set (t .values) (row slot + number) value)) (clearNumber processes slot number (t .adjustments))
+
+-- "all values are set, the set's adjustments cleared, last processes kept"
+unfoldable pub assignedAll : Table → ℕ → List ℕ → Table
+assignedAll t slot values =
+    withAdjustments (withValues t (sets (t .values) (row slot) values)) (clearRows processes slot (t .adjustments))
 
 -- "cut to 0 to 32,767"
 unfoldable pub cut : ℕ → ℤ → ℕ
@@ -183,7 +210,7 @@ doCreate s count read alter =
     let slot = freeSlot (s .sets) in
     checked (checkCreate s count) s
     (record {
-      answer = record { code = pos 0; position = Nowhere; value = identifierOf (s .sets) slot; seen = nothingSeen };
+      answer = record { code = pos 0; position = Nowhere; value = identifierOf (s .sets) slot; seen = nothingSeen; all = [] };
       state = record {
         sets = set (s .sets) slot (record { generation = getD (s .sets) slot noSet .generation; count = count; read = read; alter = alter });
         table = cleared (s .table) slot;
@@ -278,11 +305,44 @@ unfoldable pub doQuery : State → ℤ → ℕ → Result
 doQuery s i n =
     checked (checkNumber s i n) s
     (record {
-      answer = record { code = pos 0; position = Nowhere; value = getD (s .table .values) (row (slotOf i) + n) 0; seen = seenAt s (slotOf i) n };
+      answer = record { code = pos 0; position = Nowhere; value = getD (s .table .values) (row (slotOf i) + n) 0; seen = seenAt s (slotOf i) n; all = [] };
       state = s;
       looks = 0;
       wakings = [];
     })
+
+-- "all values are set, .., and its sleepers treated, every semaphore touched"
+unfoldable pub doSetAll : Waker → State → ℤ → List ℕ → Result
+doSetAll wake s i bytes =
+    let slot = slotOf i in
+    let t = assignedAll (s .table) slot (held (valuesIn bytes)) in
+    checked (checkSetAll s i bytes) s
+    (wokenAs s (wake slot (everyNumber (getD (s .sets) slot noSet .count)) (world t (s .queue)) 0))
+
+-- what is read of a semaphore, and of n semaphores from the k-th on
+unfoldable pub readAt : State → ℕ → ℕ → Read
+readAt s slot k =
+    record { value = getD (s .table .values) (row slot + k) 0; increase = seenAt s slot k .increase; zero = seenAt s slot k .zero }
+
+unfoldable pub readFrom : State → ℕ → ℕ → ℕ → List Read
+readFrom s slot k zero = []
+readFrom s slot k (suc n) = readAt s slot k ∷ readFrom s slot (k + 1) n
+
+-- "Reading gives values in order, and with them both wait counts": of each semaphore below the count
+unfoldable pub doReadAll : State → ℤ → Result
+doReadAll s i =
+    checked (checkSet s i) s
+    (record {
+      answer = record { code = pos 0; position = Nowhere; value = 0; seen = nothingSeen; all = readFrom s (slotOf i) 0 (getD (s .sets) (slotOf i) noSet .count) };
+      state = s;
+      looks = 0;
+      wakings = [];
+    })
+
+-- "value, for increase, for zero of each semaphore"
+unfoldable pub numbersOf : List Read → List ℕ
+numbersOf [] = []
+numbersOf (r ∷ rs) = r .value ∷ r .increase ∷ r .zero ∷ numbersOf rs
 
 unfoldable pub event : Waker → State → Event → Result
 event wake s (create count read alter) = doCreate s count read alter
@@ -292,3 +352,5 @@ event wake s (remove i) = doRemove s i
 event wake s (signal p) = doSignal s p
 event wake s (exit p) = doExit wake s p
 event wake s (query i n) = doQuery s i n
+event wake s (setAll i bytes) = doSetAll wake s i bytes
+event wake s (readAll i) = doReadAll s i

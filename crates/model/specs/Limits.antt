@@ -26,6 +26,10 @@ operationBytes = 6
 abbrev pub arrayBytes : ℕ
 arrayBytes = operationBytes * operations
 
+-- a value of a setting is four bytes
+abbrev pub valueBytes : ℕ
+valueBytes = 4
+
 -- the semaphores of all sets
 abbrev pub allSemaphores : ℕ
 allSemaphores = slots * semaphores

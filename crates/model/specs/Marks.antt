@@ -1,5 +1,5 @@
 -- Masks: marks have a bit for each process, touched and named semaphores a bit for each number of a set.
-use Prim.Native.Nat.{ℕ, _+_, _-_, _^_}
+use Prim.Native.Nat.{ℕ, zero, suc, _+_, _-_, _^_}
 use mathlib.Core.Bool.{Bool, cond, _&&_}
 use mathlib.Core.List.{List, [], _∷_}
 use lib.Bits.{bitOr, bitXor}
@@ -33,6 +33,11 @@ unfoldable pub differing : ℕ → ℕ → List ℕ → List ℕ → ℕ
 differing m i [] ys = m
 differing m i (x ∷ xs) [] = m
 differing m i (x ∷ xs) (y ∷ ys) = differing (cond (eqb x y) m (bitOr m (2 ^ i))) (i + 1) xs ys
+
+-- "every semaphore touched": the numbers of a set with so many semaphores
+unfoldable pub everyNumber : ℕ → ℕ
+everyNumber zero = 0
+everyNumber (suc n) = bitOr (everyNumber n) (2 ^ n)
 
 -- is the sleeper of this set?
 unfoldable pub mine : ℕ → Sleeper → Bool

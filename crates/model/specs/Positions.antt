@@ -16,7 +16,7 @@ use Rattle.model.specs.Judge.{judge}
 use Rattle.model.specs.Look.{copiesOf}
 use Rattle.model.specs.Waking.{waking}
 use Rattle.model.specs.Checks.{checkOperate}
-use Rattle.model.specs.Events.{Event, create, operate, setValue, remove, signal, exit, query, Answer, Result, call}
+use Rattle.model.specs.Events.{Event, create, operate, setValue, remove, signal, exit, query, setAll, readAll, Answer, Result, call}
 use Rattle.model.specs.Runs.{All}
 
 -- The operation at a position decides how an array is judged: the operations before it, judged alone on the same copies, are done;
@@ -50,6 +50,8 @@ Named s (remove i) a = a .position ≡ Nowhere
 Named s (signal p) a = a .position ≡ Nowhere
 Named s (exit p) a = a .position ≡ Nowhere
 Named s (query i n) a = a .position ≡ Nowhere
+Named s (setAll i bytes) a = a .position ≡ Nowhere
+Named s (readAll i) a = a .position ≡ Nowhere
 
 -- what is claimed of one event
 pub record Names (s : State) (e : Event) (r : Result) : Type 0 where

@@ -11,10 +11,10 @@ use Rattle.model.specs.declared.Position.the-variants.{Nowhere, At}
 use Rattle.model.specs.declared.Waking.{Waking}
 use Rattle.model.specs.State.{State, freeSet, freshTable, freshState}
 use Rattle.model.specs.Waking.{waking}
-use Rattle.model.specs.Events.{Event, create, operate, setValue, remove, exit, query, Answer, answerAt, answer, nothingSeen, Result}
+use Rattle.model.specs.Events.{Event, create, operate, setValue, remove, exit, query, setAll, readAll, Read, Answer, answerAt, answer, nothingSeen, Result}
 use Rattle.model.specs.Runs.{run}
 
--- ---- operations
+-- ---- operations and values
 
 -- sixteen bits of a signed amount, and two bytes of sixteen bits
 abbrev bits16 : ℤ → ℕ
@@ -44,6 +44,15 @@ undo = 4096
 
 abbrev minus : ℕ → ℤ
 minus n = negsuc (n - 1)
+
+-- thirty-two bits of a signed value, and the four bytes of each of several
+abbrev bits32 : ℤ → ℕ
+bits32 (pos n) = n
+bits32 (negsuc n) = 4294967295 - n
+
+abbrev values : List ℤ → List ℕ
+values [] = []
+values (v ∷ vs) = bytes2 (bits32 v % 65536) ++ bytes2 (bits32 v / 65536) ++ values vs
 
 -- ---- rows
 
@@ -96,14 +105,21 @@ stops e code position = answers e (answerAt code (At position))
 
 -- with code 0: a value; looks and wakings
 abbrev tells : Event → ℕ → Step
-tells e value = answers e (record { code = pos 0; position = Nowhere; value = value; seen = nothingSeen })
+tells e value = answers e (record { code = pos 0; position = Nowhere; value = value; seen = nothingSeen; all = [] })
 
 abbrev wakes : Event → ℕ → ℕ → List Waking → Step
 wakes e plain quick wakings = record { event = e; answer = answer (pos 0); plain = plain; quick = quick; wakings = wakings }
 
 -- a query that shows a value and a last process, and that nobody waits
 abbrev sees : Event → ℕ → ℕ → Step
-sees e value last = answers e (record { code = pos 0; position = Nowhere; value = value; seen = record { last = last; increase = 0; zero = 0; increaseMask = 0; zeroMask = 0 } })
+sees e value last = answers e (record { code = pos 0; position = Nowhere; value = value; seen = record { last = last; increase = 0; zero = 0; increaseMask = 0; zeroMask = 0 }; all = [] })
+
+-- a reading that shows the semaphores of a set: of each its value, and how many wait for an increase and for zero
+abbrev reads : Event → List Read → Step
+reads e all = answers e (record { code = pos 0; position = Nowhere; value = 0; seen = nothingSeen; all = all })
+
+abbrev at : ℕ → ℕ → ℕ → Read
+at value increase forZero = record { value = value; increase = increase; zero = forZero }
 
 -- a waking with a code alone; one with 11 or 34, and the position of the operation that decided
 abbrev woken : ℕ → ℤ → Waking
@@ -122,9 +138,12 @@ asleep = minus 1
 abbrev fresh : ℕ → List Step → Situation
 fresh count steps = record { start = freshState; steps = tells (create count 255 255) 0 ∷ steps }
 
--- the one set of these rows
+-- the set of these rows, and a second one
 abbrev set0 : ℤ
 set0 = pos 0
+
+abbrev set1 : ℤ
+set1 = pos 1
 
 -- 1: value 0, array +1, -1 on it: done, value 0. Array -1, +1: asleep.
 abbrev pub situation1 : Situation
@@ -292,7 +311,7 @@ situation15 =
     fresh 2
     (gives (setValue set0 0 (pos 1)) done
     ∷ stops (operate 2 set0 (op 0 (pos 0) none ++ op 1 (pos 0) none)) asleep 0
-    ∷ answers (query set0 0) (record { code = done; position = Nowhere; value = 1; seen = record { last = 0; increase = 0; zero = 1; increaseMask = 0; zeroMask = 2 } })
+    ∷ answers (query set0 0) (record { code = done; position = Nowhere; value = 1; seen = record { last = 0; increase = 0; zero = 1; increaseMask = 0; zeroMask = 2 }; all = [] })
     ∷ sees (query set0 1) 0 0
     ∷ wakes (operate 3 set0 (op 0 (minus 1) none)) 1 1 (woken 2 (pos 0) ∷ [])
     ∷ sees (query set0 0) 0 2
@@ -342,6 +361,78 @@ situation18 =
     ∷ sees (query set0 1) 2 1
     ∷ [])
 
+-- 19: all values at once. Asleep: process 1 on (0,-1),(1,-1), then 2 on (0,-1). Both set to 1 at once: the older is woken, 2 sleeps
+-- on. The same at another set, set one by one: 0 to 1 wakes the younger, and 1 to 1 wakes nobody.
+abbrev pub situation19 : Situation
+situation19 =
+    fresh 2
+    (stops (operate 1 set0 (op 0 (minus 1) none ++ op 1 (minus 1) none)) asleep 0
+    ∷ stops (operate 2 set0 (op 0 (minus 1) none)) asleep 0
+    ∷ wakes (setAll set0 (values (pos 1 ∷ pos 1 ∷ []))) 2 2 (woken 1 (pos 0) ∷ [])
+    ∷ reads (readAll set0) (at 0 1 0 ∷ at 0 0 0 ∷ [])
+    ∷ tells (create 2 255 255) 1
+    ∷ stops (operate 3 set1 (op 0 (minus 1) none ++ op 1 (minus 1) none)) asleep 0
+    ∷ stops (operate 4 set1 (op 0 (minus 1) none)) asleep 0
+    ∷ wakes (setValue set1 0 (pos 1)) 3 3 (woken 4 (pos 0) ∷ [])
+    ∷ wakes (setValue set1 1 (pos 1)) 1 1 []
+    ∷ reads (readAll set1) (at 0 1 0 ∷ at 1 0 0 ∷ [])
+    ∷ [])
+
+-- 20: a setting with one bad value changes nothing, whichever it is; so does one with too few or too many values, and 22 is tested
+-- first. Process 1 sleeps on, and the values are as they were.
+abbrev pub situation20 : Situation
+situation20 =
+    fresh 3
+    (gives (setAll set0 (values (pos 1 ∷ pos 0 ∷ pos 2 ∷ []))) done
+    ∷ stops (operate 1 set0 (op 1 (minus 1) none)) asleep 0
+    ∷ gives (setAll set0 (values (pos 5 ∷ pos 32768 ∷ pos 5 ∷ []))) (pos 34)
+    ∷ gives (setAll set0 (values (pos 5 ∷ pos 5 ∷ minus 1 ∷ []))) (pos 34)
+    ∷ gives (setAll set0 (values (minus 1 ∷ pos 5 ∷ pos 5 ∷ []))) (pos 34)
+    ∷ gives (setAll set0 (values (pos 5 ∷ pos 5 ∷ []))) (pos 22)
+    ∷ gives (setAll set0 (values (pos 5 ∷ pos 5 ∷ pos 5 ∷ pos 5 ∷ []))) (pos 22)
+    ∷ gives (setAll set0 (values (pos 40000 ∷ pos 5 ∷ []))) (pos 22)
+    ∷ gives (setAll set0 (values (pos 5 ∷ pos 5 ∷ pos 5 ∷ []) ++ 0 ∷ [])) (pos 22)
+    ∷ gives (setAll set0 []) (pos 22)
+    ∷ gives (setAll (pos 4) (values (pos 5 ∷ pos 5 ∷ pos 5 ∷ []))) (pos 22)
+    ∷ reads (readAll set0) (at 1 0 0 ∷ at 0 1 0 ∷ at 2 0 0 ∷ [])
+    ∷ [])
+
+-- 21: a reading after sleepers shows both counts, each sleeper where it now stops. Values 1, 0, 0; asleep: 1 on (0,0), 2 on (1,-1),
+-- 3 on (1,0),(0,0), 4 on (0,-1),(1,-1). Set to 0, 0, 0: 1 and 3 are woken.
+abbrev pub situation21 : Situation
+situation21 =
+    fresh 3
+    (gives (setAll set0 (values (pos 1 ∷ pos 0 ∷ pos 0 ∷ []))) done
+    ∷ stops (operate 1 set0 (op 0 (pos 0) none)) asleep 0
+    ∷ stops (operate 2 set0 (op 1 (minus 1) none)) asleep 0
+    ∷ stops (operate 3 set0 (op 1 (pos 0) none ++ op 0 (pos 0) none)) asleep 1
+    ∷ stops (operate 4 set0 (op 0 (minus 1) none ++ op 1 (minus 1) none)) asleep 1
+    ∷ reads (readAll set0) (at 1 0 2 ∷ at 0 2 0 ∷ at 0 0 0 ∷ [])
+    ∷ gives (readAll (pos 7)) (pos 22)
+    ∷ wakes (setAll set0 (values (pos 0 ∷ pos 0 ∷ pos 0 ∷ []))) 5 4 (woken 1 (pos 0) ∷ woken 3 (pos 0) ∷ [])
+    ∷ reads (readAll set0) (at 0 1 0 ∷ at 0 1 0 ∷ at 0 0 0 ∷ [])
+    ∷ [])
+
+-- 22: values that stay the same are touched too, and the adjustments of all processes are cleared before any look. Process 1 holds
+-- +32,767 at 0, and sleeps on (0,+20,000,SEM_UNDO),(0,-20,000),(0,+20,000,SEM_UNDO),(1,-1); 2 holds -5 at 2; 3 sleeps on (2,-6).
+-- Set to the values that there are: 1 is woken with 34 at 2, 3 is looked at too, the exit of 2 adds nothing, and the last processes
+-- stay.
+abbrev pub situation22 : Situation
+situation22 =
+    fresh 3
+    (gives (setAll set0 (values (pos 32767 ∷ pos 0 ∷ pos 0 ∷ []))) done
+    ∷ gives (operate 1 set0 (op 0 (minus 32767) undo)) done
+    ∷ gives (operate 2 set0 (op 2 (pos 5) undo)) done
+    ∷ stops (operate 1 set0 (op 0 (pos 20000) undo ++ op 0 (minus 20000) none ++ op 0 (pos 20000) undo ++ op 1 (minus 1) none)) asleep 3
+    ∷ stops (operate 3 set0 (op 2 (minus 6) none)) asleep 0
+    ∷ wakes (setAll set0 (values (pos 0 ∷ pos 0 ∷ pos 5 ∷ []))) 2 2 (ended 1 (pos 34) 2 ∷ [])
+    ∷ wakes (exit 2) 1 0 []
+    ∷ reads (readAll set0) (at 0 0 0 ∷ at 0 0 0 ∷ at 5 1 0 ∷ [])
+    ∷ sees (query set0 0) 0 1
+    ∷ sees (query set0 1) 0 0
+    ∷ answers (query set0 2) (record { code = done; position = Nowhere; value = 5; seen = record { last = 2; increase = 1; zero = 0; increaseMask = 4; zeroMask = 0 }; all = [] })
+    ∷ [])
+
 abbrev pub table : List Situation
 table =
     situation1
@@ -363,4 +454,8 @@ table =
     ∷ situation16
     ∷ situation17
     ∷ situation18
+    ∷ situation19
+    ∷ situation20
+    ∷ situation21
+    ∷ situation22
     ∷ []

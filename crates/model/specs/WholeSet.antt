@@ -10,7 +10,7 @@ use Rattle.model.specs.Limits.{semaphores}
 use Rattle.model.specs.State.{State, row, noSet}
 use Rattle.model.specs.Checks.{slotOf, checkSet}
 use Rattle.model.specs.Counts.{judgedAt}
-use Rattle.model.specs.Events.{Answer, seenAt}
+use Rattle.model.specs.Events.{Read, Answer, seenAt}
 
 -- a number for each of n semaphores, from the k-th on
 unfoldable pub eachFrom : (ℕ → ℕ) → ℕ → ℕ → List ℕ
@@ -72,6 +72,16 @@ pub record AsQueried (a : Answer) (shown : QueriedSet) (n : ℕ) : Type 0 where
   pub zero : getD (shown .zero) n 0 ≡ a .seen .zero
   pub increaseMask : getD (shown .«increase_masks») n 0 ≡ a .seen .increaseMask
   pub zeroMask : getD (shown .«zero_masks») n 0 ≡ a .seen .zeroMask
+
+-- what is read of n semaphores, from the k-th on, off their values and how many wait at each for an increase and for zero
+unfoldable pub readsFrom : List ℕ → List ℕ → List ℕ → ℕ → ℕ → List Read
+readsFrom values increase zeros k zero = []
+readsFrom values increase zeros k (suc n) = record { value = getD values k 0; increase = getD increase k 0; zero = getD zeros k 0 } ∷ readsFrom values increase zeros (k + 1) n
+
+-- it shows what a reading answers
+pub record AsRead (a : Answer) (shown : QueriedSet) : Type 0 where
+  pub code : shown .code ≡ a .code
+  pub all : a .all ≡ readsFrom (shown .values) (shown .increase) (shown .zero) 0 (shown .count)
 
 -- the sum of numbers
 unfoldable pub total : List ℕ → ℕ

@@ -20,6 +20,9 @@ pub const OPERATION_BYTES: usize = 6;
 
 pub const ARRAY_BYTES: usize = OPERATION_BYTES * OPERATIONS;
 
+// The bytes of one value of a setting.
+pub const VALUE_BYTES: usize = 4;
+
 // The numbers of a table: semaphores of all sets, and adjustments of all processes.
 pub const ALL_SEMAPHORES: usize = SETS * SEMAPHORES;
 
@@ -102,7 +105,12 @@ pub struct Waking {
     pub position: Position,
 }
 
-// An event that is handed in. The bytes of an operate's operations stand beside it.
+// What a reading shows: of each semaphore of a set three numbers, its value and who waits there for an increase and for zero.
+pub const ONE_READ: usize = 3;
+
+pub const ALL_READ: usize = ONE_READ * SEMAPHORES;
+
+// An event that is handed in. The bytes of an operate's operations, or of a setting's values, stand beside it.
 pub enum Event {
     Create {
         count: u8,
@@ -130,6 +138,12 @@ pub enum Event {
     Query {
         identifier: i32,
         number: u16,
+    },
+    SetAll {
+        identifier: i32,
+    },
+    ReadAll {
+        identifier: i32,
     },
 }
 
@@ -171,8 +185,15 @@ pub struct QueriedSet {
     pub zero_masks: [u8; SEMAPHORES],
 }
 
+// What a reading answers: its code, and how many semaphores it shows. Their numbers stand in what it was lent for them.
+pub struct Reading {
+    pub code: i32,
+    pub count: u8,
+}
+
 // What any event answers.
 pub enum Reply {
     Told(Told),
     Seen(Queried),
+    Read(Reading),
 }

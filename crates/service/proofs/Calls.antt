@@ -1,24 +1,24 @@
 -- Calls of the code agree with the engine's run, step by step; and those of both engines with each other (specs/Calls.antt).
 use mathlib.Core.Path.{_≡_, refl, sym, ap, ap₂, subst, _∙_}
-use mathlib.Core.Bool.{Bool, true, false, cond}
 use mathlib.Core.List.{List, _∷_}
 use lib.ListN.{length}
+use native.Mathlib.Omega.{arith}
 use Rattle.model.specs.declared.Engine.{Engine}
 use Rattle.model.specs.declared.Engine.the-variants.{Plain, Quick}
 use Rattle.model.specs.declared.Waking.{Waking}
 use Rattle.model.specs.declared.Reply.the-variants as reply
 use Rattle.model.specs.State.{freshState}
 use Rattle.model.specs.Waking.{waker}
-use Rattle.model.specs.Events.{Event, isQuery, Answer, Result, event}
+use Rattle.model.specs.Events.{Event, Form, asTold, asSeen, asRead, formOf, Read, Answer, Result, numbersOf, event}
 use Rattle.model.specs.Runs.{run, came, start, Pairwise, end, next}
 use Rattle.model.proofs.EventLaws.{Agrees}
 use Rattle.model.proofs.Engines.{event-agrees, reached, engines-agree}
 use Rattle.host.specs.Holding.{Host, hostOf, stateIn, Held}
 use Rattle.host.proofs.HeldLaws.{state-back, held-fresh, held-next}
 use Rattle.wakings.specs.Wakings.{listOf}
-use Rattle.service.specs.After.{tellingAt, toldOf, showing, queriedOf, Replied, tells, repliedOf}
-use Rattle.service.specs.Calls.{Call, creates, operates, setsValue, removes, signals, exits, queries, runs, Called, noCall, andCall, lastHost, repliesOf, CallsAlike, CallsAgree}
-use Rattle.service.proofs.ReplyLaws.{seen}
+use Rattle.service.specs.After.{tellingAt, showing, replyAs, readAs, Replied, tells, repliedOf}
+use Rattle.service.specs.Calls.{Call, creates, operates, setsValue, removes, signals, exits, queries, setsAll, readsAll, runs, Called, noCall, andCall, lastHost, repliesOf, CallsAlike, CallsAgree}
+use Rattle.service.proofs.ReplyLaws.{seen, read}
 
 -- ---- one call
 
@@ -32,6 +32,8 @@ call-is engine x k e y (removes i a h) = ap tells h
 call-is engine x k e y (signals p a h) = ap tells h
 call-is engine x k e y (exits p a h) = ap tells h
 call-is engine x k e y (queries i n q h) = seen x k i n refl h
+call-is engine x k e y (setsAll i bytes a h) = ap tells h
+call-is engine x k e y (readsAll i lent long q left h) = read x k i lent long h refl
 call-is engine x k e y (runs d bytes a h) = h
 
 -- .. and a host that holds the state after it
@@ -65,25 +67,36 @@ calls-last engine x k es ys (andCall {e = e} {es = rest} {y = y} {ys = more} c c
 
 -- results that are alike, and leave the same state, are alike to those who call
 replies-alike : (e : Event) (a b : Result) → Agrees a b → CallsAlike (repliedOf e a) (repliedOf e b)
-replies-alike e a b g = go (isQuery e)
+replies-alike e a b g = go (formOf e)
   where
-    go : (q : Bool) → CallsAlike (record { host = hostOf (a .state); wakings = listOf (a .wakings); reply = cond q (reply.Seen (queriedOf a)) (reply.Told (toldOf a)) })
-        (record { host = hostOf (b .state); wakings = listOf (b .wakings); reply = cond q (reply.Seen (queriedOf b)) (reply.Told (toldOf b)) })
-    go true =
-        record {
-          host = ap hostOf (g .state);
-          wakings = ap listOf (g .alike .wakings);
-          reply = ap (λ (w : Answer). reply.Seen (showing w 0)) (g .alike .answer);
-          fewer = g .alike .fewer;
-          bounded = g .alike .bounded;
-        }
-    go false =
+    go : (f : Form) → CallsAlike (record { host = hostOf (a .state); wakings = listOf (a .wakings); reply = replyAs f a; read = readAs f a })
+        (record { host = hostOf (b .state); wakings = listOf (b .wakings); reply = replyAs f b; read = readAs f b })
+    go asTold =
         record {
           host = ap hostOf (g .state);
           wakings = ap listOf (g .alike .wakings);
           reply = ap₂ (λ (w : Answer) (l : List Waking). reply.Told (tellingAt (w .code) (w .position) (w .value) 0 (length l))) (g .alike .answer) (g .alike .wakings);
+          read = refl;
           fewer = g .alike .fewer;
           bounded = g .alike .bounded;
+        }
+    go asSeen =
+        record {
+          host = ap hostOf (g .state);
+          wakings = ap listOf (g .alike .wakings);
+          reply = ap (λ (w : Answer). reply.Seen (showing w 0)) (g .alike .answer);
+          read = refl;
+          fewer = g .alike .fewer;
+          bounded = g .alike .bounded;
+        }
+    go asRead =
+        record {
+          host = ap hostOf (g .state);
+          wakings = ap listOf (g .alike .wakings);
+          reply = ap (λ (w : Answer). reply.Read (record { code = w .code; count = length (w .all) })) (g .alike .answer);
+          read = ap (λ (w : Answer). numbersOf (w .all)) (g .alike .answer);
+          fewer = omega arith;
+          bounded = omega arith;
         }
 
 calls-alike : (x : Host) → Held x → (es : List Event) (ys zs : List Replied) → Called Quick x es ys → Called Plain x es zs → Pairwise CallsAlike ys zs

@@ -4,5 +4,6 @@ pub mod SlotLaws
 pub mod WaitingLaws
 pub mod QueryLaws
 pub mod SetShown
+pub mod ReadLaws
 pub mod ReplyLaws
 pub mod Calls

@@ -1,20 +1,23 @@
 -- Calls of the code, one after another: what they leave and return, by the promises of the functions themselves.
-use Prim.Native.Nat.{ℕ, _≤_}
+use Prim.Native.Nat.{ℕ, _*_, _≤_}
 use mathlib.Core.Path.{_≡_}
 use mathlib.Core.List.{List, [], _∷_}
 use lib.IntN.{ℤ}
+use lib.ListN.{length}
 use Rattle.model.specs.declared.Engine.{Engine}
 use Rattle.model.specs.declared.Engine.the-variants.{Plain, Quick}
 use Rattle.model.specs.declared.Event as declared
 use Rattle.model.specs.declared.Queried.{Queried}
+use Rattle.model.specs.declared.Reading.{Reading}
 use Rattle.model.specs.declared.Reply.{Reply}
 use Rattle.model.specs.declared.Reply.the-variants as reply
+use Rattle.model.specs.Limits.{semaphores}
 use Rattle.model.specs.State.{freshState}
 use Rattle.model.specs.Waking.{waker}
-use Rattle.model.specs.Events.{Event, create, operate, setValue, remove, signal, exit, query, eventOf, Result, event, doCreate, doOperate, doSetValue, doRemove, doSignal, doExit, doQuery}
+use Rattle.model.specs.Events.{Event, create, operate, setValue, remove, signal, exit, query, setAll, readAll, eventOf, Result, event, doCreate, doOperate, doSetValue, doRemove, doSignal, doExit, doQuery, doSetAll, doReadAll}
 use Rattle.model.specs.Runs.{run, All, Pairwise, Stuck}
 use Rattle.host.specs.Holding.{Host, hostOf, stateIn}
-use Rattle.service.specs.After.{After, tellingAt, afterOf, queriedOf, Replied, tells, shows, repliedOf}
+use Rattle.service.specs.After.{After, tellingAt, afterOf, queriedOf, readOut, Replied, tells, shows, reads, repliedOf}
 
 -- One call on a host, the event that it is, and what it leaves and returns. Each case is the promise of one function: y, or q, is
 -- what stands in what was lent and returned (its promise's left side).
@@ -26,6 +29,8 @@ pub data Call (engine : Engine) (x : Host) : Event → Replied → Type 0 where
   signals : (p : ℕ) (y : After) → y ≡ afterOf (doSignal (stateIn x) p) → Call engine x (signal p) (tells y)
   exits : (p : ℕ) (y : After) → y ≡ afterOf (doExit (waker engine) (stateIn x) p) → Call engine x (exit p) (tells y)
   queries : (i : ℤ) (n : ℕ) (q : Queried) → q ≡ queriedOf (doQuery (stateIn x) i n) → Call engine x (query i n) (shows x q)
+  setsAll : (i : ℤ) (bytes : List ℕ) (y : After) → y ≡ afterOf (doSetAll (waker engine) (stateIn x) i bytes) → Call engine x (setAll i bytes) (tells y)
+  readsAll : (i : ℤ) (lent : List ℕ) → length lent ≡ 3 * semaphores → (q : Reading) (left : List ℕ) → (q, left) ≡ readOut lent (doReadAll (stateIn x) i) → Call engine x (readAll i) (reads x q left)
   runs : (e : declared.Event) (bytes : List ℕ) (y : Replied) → y ≡ repliedOf (eventOf e bytes) (event (waker engine) (stateIn x) (eventOf e bytes)) → Call engine x (eventOf e bytes) y
 
 -- calls in a row, "each handed the state its engine's last one returned"
@@ -44,13 +49,15 @@ repliesOf [] rs = []
 repliesOf (e ∷ es) [] = []
 repliesOf (e ∷ es) (r ∷ rs) = repliedOf e r ∷ repliesOf es rs
 
--- a reply's looks; and the reply with 0 for them
+-- a reply's looks (a reading has none); and the reply with 0 for them
 abbrev pub looksOf : Reply → ℕ
 looksOf (reply.Told t) = t .looks
 looksOf (reply.Seen q) = q .looks
+looksOf (reply.Read q) = 0
 
 abbrev pub withoutLooks : Reply → Reply
 withoutLooks (reply.Told t) = reply.Told (tellingAt (t .code) (t .position) (t .value) 0 (t .woken))
+withoutLooks (reply.Read q) = reply.Read q
 withoutLooks (reply.Seen q) =
     reply.Seen
     (record {
@@ -69,6 +76,7 @@ pub record CallsAlike (quick plain : Replied) : Type 0 where
   pub host : quick .host ≡ plain .host
   pub wakings : quick .wakings ≡ plain .wakings
   pub reply : withoutLooks (quick .reply) ≡ withoutLooks (plain .reply)
+  pub read : quick .read ≡ plain .read
   pub fewer : looksOf (quick .reply) ≤ looksOf (plain .reply)
   pub bounded : looksOf (plain .reply) ≤ 36
 

@@ -1,4 +1,4 @@
-// The seven events, each in its own file, and what they tell.
+// The nine events, each in its own file, and what they tell.
 ghost use mathlib.Core.Path.{_≡_};
 ghost use Prim.Native.Nat.{_%_};
 ghost use lib.IntN.{pos};
@@ -15,7 +15,9 @@ pub mod create;
 pub mod exit;
 pub mod operate;
 pub mod query;
+pub mod read_all;
 pub mod remove;
+pub mod set_all;
 pub mod set_value;
 pub mod signal;
 

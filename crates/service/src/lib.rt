@@ -1,11 +1,11 @@
-// The service: seven events over a host that the caller holds and lends, and a whole set shown at once.
+// The service: nine events over a host that the caller holds and lends, and a whole set shown at once.
 //
 // An event is lent the host's row of bytes and its undo adjustments, and a list for the wakings; it tells its code, its
 // value, its looks, and how many it woke. Its promise is one equation with the event's definition in the crate model,
 // refusals included: of the host after it, the list, and what it tells, for every host that is fresh or came back from an
-// event. Create, remove, signal and query wake nobody by a rule; operate, set value and exit go by the engine they are
-// handed. `run` does any of them. `query_set` is no event: it shows what a query of each semaphore of a set would, by one walk
-// over its sleepers.
+// event. Create, remove, signal, query and read all wake nobody by a rule; operate, set value, set all and exit go by the engine
+// they are handed. `run` does any of them. `query_set` shows what a query of each semaphore of a set would, by one walk over its
+// sleepers; the event read all has its numbers from it.
 mod events;
 mod waiting;
 mod whole_set;
@@ -14,16 +14,19 @@ ghost use mathlib.Core.Path.{_≡_};
 ghost use Rattle.model.specs.Waking.{waker};
 ghost use Rattle.model.specs.Events.{event as eventIn, eventOf};
 ghost use Rattle.host.specs.Holding.{Held, hostIn, stateIn};
-ghost use Rattle.service.specs.After.{repliedIn, repliedOf};
+ghost use Rattle.service.specs.After.{repliedIn, repliedOf, numbersAfter};
 pub use events::create::create;
 pub use events::exit::exit;
 pub use events::operate::operate;
 pub use events::query::query;
+pub use events::read_all::read_all;
 pub use events::remove::remove;
+pub use events::set_all::set_all;
 pub use events::set_value::set_value;
 pub use events::signal::signal;
 use host::HOST_BYTES;
 use model::ALL_ADJUSTMENTS;
+use model::ALL_READ;
 use model::Engine;
 use model::Event;
 use model::Reply;
@@ -31,17 +34,20 @@ use model::WAKING_BYTES;
 use wakings::clear;
 pub use whole_set::query_set;
 
-// Any event, told apart once. The bytes of an operate's operations stand beside it.
+// Any event, told apart once. The bytes of an operate's operations, or of a setting's values, stand beside it; the numbers that a
+// reading shows go to what is lent for them.
 pub fn run(
     host: &mut [u8; HOST_BYTES],
     adjustments: &mut [i16; ALL_ADJUSTMENTS],
     list: &mut [u8; WAKING_BYTES],
+    numbers: &mut [u32; ALL_READ],
     engine: Engine,
     event: Event,
     bytes: &[u8],
 ) -> Reply
     requires { ⌜ Held (hostIn (now host) (now adjustments)) ⌝ }
-    ensures { λ r. ⌜ repliedIn (now (host .exit)) (now (adjustments .exit)) (now (list .exit)) r ≡ repliedOf (eventOf event (now (bytes .entry))) (eventIn (waker engine) (stateIn (hostIn (now (host .entry)) (now (adjustments .entry)))) (eventOf event (now (bytes .entry)))) ⌝ }
+    ensures { λ r. ⌜ repliedIn (now (host .exit)) (now (adjustments .exit)) (now (list .exit)) (now (numbers .exit)) r ≡ repliedOf (eventOf event (now (bytes .entry))) (eventIn (waker engine) (stateIn (hostIn (now (host .entry)) (now (adjustments .entry)))) (eventOf event (now (bytes .entry)))) ⌝ }
+    ensures { λ _. ⌜ now (numbers .exit) ≡ numbersAfter (now (numbers .entry)) (eventOf event (now (bytes .entry))) (eventIn (waker engine) (stateIn (hostIn (now (host .entry)) (now (adjustments .entry)))) (eventOf event (now (bytes .entry)))) ⌝ }
 {
     match event {
         Event::Create { count, read, alter } => {
@@ -62,6 +68,15 @@ pub fn run(
         Event::Query { identifier, number } => {
             clear(list);
             Reply::Seen(query(&*host, &*adjustments, identifier, number))
+        }
+        Event::SetAll { identifier } => {
+            Reply::Told(set_all(host, adjustments, list, engine, identifier, bytes))
+        }
+        Event::ReadAll { identifier } => {
+            // As a slice once: that tells the proof how long it is.
+            let _all: &[u32] = &*numbers;
+            clear(list);
+            Reply::Read(read_all(&*host, &*adjustments, numbers, identifier))
         }
     }
 }

@@ -10,7 +10,7 @@ ghost use lib.Dec.{eqb, ltb};
 ghost use lib.IntN.{ℤ};
 ghost use Rattle.model.specs.Limits.{operationBytes};
 ghost use Rattle.model.specs.Operation.{operationsOf};
-ghost use Rattle.model.specs.Checks.{namesSet, freeSlot, checkCreate, checkOperate, checkNumber, checkSetValue, checkSet, checkProcess};
+ghost use Rattle.model.specs.Checks.{namesSet, freeSlot, checkCreate, checkOperate, checkNumber, checkSetValue, checkSetAll, checkSet, checkProcess};
 ghost use Rattle.judging.specs.Named.{namedWithin};
 ghost use Rattle.host.specs.Parts.{rowIn};
 ghost use Rattle.host.specs.Holding.{setsIn, hostIn, stateIn};
@@ -18,6 +18,7 @@ ghost use Rattle.service_queue.specs.Seated.{Seated};
 use host::HOST_BYTES;
 use host::set_at;
 use judging::Checked;
+use judging::all_in_range;
 use judging::check_array;
 use judging::in_range;
 use judging::slot_of;
@@ -26,6 +27,7 @@ use model::OPERATION_BYTES;
 use model::PROCESSES;
 use model::SEMAPHORES;
 use model::SETS;
+use model::VALUE_BYTES;
 use service_queue::is_asleep;
 
 // Is the number not one of 1 to `most`?
@@ -131,7 +133,21 @@ pub fn check_set_value(host: &[u8; HOST_BYTES], identifier: i32, number: u16, va
     if in_range(value) { 0 } else { 34 }
 }
 
-// Remove, and a whole set.
+// Set all: as many values as the set has semaphores, then each in range.
+pub fn check_set_all(host: &[u8; HOST_BYTES], identifier: i32, bytes: &[u8]) -> u8
+    ensures { λ r. ⌜ ((a : List ℤ) → r ≡ checkSetAll (stateIn (hostIn (now (host .entry)) a)) identifier (now (bytes .entry))) ⌝ }
+{
+    if !names_set(host, identifier) {
+        return 22;
+    }
+    let set = set_at(host, slot_of(identifier));
+    if bytes.len() != VALUE_BYTES * (set.count as usize) {
+        return 22;
+    }
+    if all_in_range(bytes) { 0 } else { 34 }
+}
+
+// Remove, read all, and a whole set.
 pub fn check_set(host: &[u8; HOST_BYTES], identifier: i32) -> u8
     ensures { λ r. ⌜ ((a : List ℤ) → r ≡ checkSet (stateIn (hostIn (now (host .entry)) a)) identifier) ⌝ }
 {

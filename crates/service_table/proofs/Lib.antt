@@ -3,6 +3,7 @@ pub mod Lists
 pub mod LastLaws
 pub mod WrittenLaws
 pub mod LoopLaws
+pub mod SettingLaws
 pub mod ZeroLaws
 pub mod UndoLaws
 pub mod ExitLaws

@@ -11,7 +11,7 @@ use Rattle.model.specs.State.{Table, withValues, withAdjustments, row, undoRow}
 use Rattle.model.specs.Operation.{isZero}
 use Rattle.model.specs.Look.{valuesOf, adjustmentsOf}
 use Rattle.model.specs.Events.{undoAll}
-use Rattle.host.specs.Parts.{values, lasts, with}
+use Rattle.host.specs.Parts.{values, lasts, Row, with}
 use Rattle.host.specs.Rows.{masked, undoAt}
 use Rattle.host.specs.Holding.{Host, withTable}
 
@@ -26,6 +26,10 @@ withCopies x process slot mask copies =
       row = with (with (x .row) values (sets (x .row values) (row slot) (copies .values))) lasts (masked mask process semaphores (row slot) (x .row lasts));
       adjustments = sets (x .adjustments) (undoAt process slot) (copies .adjustments);
     }
+
+-- a row with these values in semaphores one behind the other, from a place on
+abbrev pub withValuesFrom : Row → ℕ → List ℕ → Row
+withValuesFrom r at vs = with r values (sets (r values) at vs)
 
 -- a process's adjustments for one slot are added to its values, cut, and put to 0
 unfoldable pub exitedAt : Table → ℕ → ℕ → Table

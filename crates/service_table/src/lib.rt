@@ -6,12 +6,14 @@ ghost use mathlib.Core.Path.{_≡_};
 ghost use Rattle.model.specs.Limits.{processes};
 ghost use Rattle.model.specs.Look.{valuesOf};
 ghost use Rattle.model.specs.Marks.{differing};
-ghost use Rattle.model.specs.State.{clearRows, cleared};
-ghost use Rattle.model.specs.Events.{clearNumber, assigned, undoAll};
+ghost use Rattle.model.specs.State.{row, clearRows, cleared};
+ghost use Rattle.model.specs.Values.{valuesIn};
+ghost use Rattle.model.specs.Events.{clearNumber, assigned, assignedAll, undoAll};
 ghost use Rattle.host.specs.Parts.{values, rowIn};
 ghost use Rattle.host.specs.Holding.{hostIn, tableIn};
 ghost use Rattle.service_table.specs.Numbered.{IsSlot, IsProcess, IsNumber, AreValues};
-ghost use Rattle.service_table.specs.Written.{tabled, withCopies, exitedAt, allZero};
+ghost use Rattle.judging.specs.Value.{valuesHeld};
+ghost use Rattle.service_table.specs.Written.{tabled, withCopies, withValuesFrom, exitedAt, allZero};
 use host::HOST_BYTES;
 use host::adjustments_of;
 use host::put_adjustment;
@@ -21,10 +23,12 @@ use host::put_value;
 use host::put_values;
 use host::values_of;
 use judging::cut;
+use judging::value_in;
 use model::ALL_ADJUSTMENTS;
 use model::ALL_SEMAPHORES;
 use model::PROCESSES;
 use model::SEMAPHORES;
+use model::VALUE_BYTES;
 
 // The numbers at which two rows of values differ, as a mask.
 pub fn differing_mask(before: [u16; SEMAPHORES], after: [u16; SEMAPHORES]) -> u8
@@ -108,6 +112,31 @@ pub fn assign(
 {
     put_value(host, slot * SEMAPHORES + number, value);
     forget(adjustments, slot, number);
+}
+
+// Gives the semaphores of a slot, from its first on, the values that these bytes hold.
+fn put_all(host: &mut [u8; HOST_BYTES], slot: usize, bytes: &[u8])
+    requires { ⌜ IsSlot slot ⌝ }
+    ensures { λ _. ⌜ rowIn (now (host .exit)) ≡ withValuesFrom (rowIn (now (host .entry))) (row slot) (valuesHeld (valuesIn (now (bytes .entry)))) ⌝ }
+{
+    let count = bytes.len() / VALUE_BYTES;
+    for n in 0..count {
+        put_value(&mut *host, slot * SEMAPHORES + n, value_in(bytes, n));
+    }
+}
+
+// Gives all semaphores of a set these values, and forgets its adjustments. The last processes stay.
+pub fn assign_all(
+    host: &mut [u8; HOST_BYTES],
+    adjustments: &mut [i16; ALL_ADJUSTMENTS],
+    slot: usize,
+    bytes: &[u8],
+)
+    requires { ⌜ IsSlot slot ⌝ }
+    ensures { λ _. ⌜ hostIn (now (host .exit)) (now (adjustments .exit)) ≡ tabled (hostIn (now (host .entry)) (now (adjustments .entry))) (assignedAll (tableIn (hostIn (now (host .entry)) (now (adjustments .entry)))) slot (valuesHeld (valuesIn (now (bytes .entry))))) ⌝ }
+{
+    put_all(host, slot, bytes);
+    clear_adjustments(adjustments, slot);
 }
 
 // Are all adjustments of a row zero?

@@ -2,13 +2,13 @@
 //
 // Each event is lent the parts of a host and hands them on to the service, where it wakes with the quick engine; what it
 // promises is the service's own promise, with what is told as C has it (proofs/Calls.antt). So does a whole set, which is shown and
-// wakes nobody. Nothing at run time asks for the premise `Held`: a caller in another language keeps it, by handing in the parts of
-// `vairolent_fresh`, as the last event left them.
+// wakes nobody: it has all that the event read all shows, and more. Nothing at run time asks for the premise `Held`: a caller in
+// another language keeps it, by handing in the parts of `vairolent_fresh`, as the last event left them.
 ghost use mathlib.Core.Path.{_≡_};
 ghost use mathlib.Core.List.{[]};
 ghost use Rattle.model.specs.State.{freshState};
 ghost use Rattle.model.specs.Waking.{waker};
-ghost use Rattle.model.specs.Events.{doCreate, doOperate, doSetValue, doRemove, doSignal, doExit, doQuery};
+ghost use Rattle.model.specs.Events.{doCreate, doOperate, doSetValue, doRemove, doSignal, doExit, doQuery, doSetAll};
 ghost use Rattle.model.specs.WholeSet.{querySet};
 ghost use Rattle.model.specs.declared.Engine.the-variants.{Quick};
 ghost use Rattle.host.specs.Holding.{Held, hostIn, hostOf, stateIn};
@@ -222,6 +222,28 @@ pub extern "C" fn vairolent_exit_in(
     ensures { λ r. ⌜ handedIn (now (row .exit)) (now (adjustments .exit)) (now (wakings .exit)) r ≡ handedOf (afterOf (doExit (waker Quick) (stateIn (hostIn (now (row .entry)) (now (adjustments .entry)))) process)) ⌝ }
 {
     report(service::exit(row, adjustments, wakings, Engine::Quick, process))
+}
+
+// The values stand in the bytes that are lent, four each, little-endian and signed, as a run file has them.
+#[no_mangle]
+pub extern "C" fn vairolent_set_all_in(
+    row: &mut [u8; HOST_BYTES],
+    adjustments: &mut [i16; ALL_ADJUSTMENTS],
+    wakings: &mut [u8; WAKING_BYTES],
+    identifier: i32,
+    values: &[u8],
+) -> Reported
+    requires { ⌜ Held (hostIn (now row) (now adjustments)) ⌝ }
+    ensures { λ r. ⌜ handedIn (now (row .exit)) (now (adjustments .exit)) (now (wakings .exit)) r ≡ handedOf (afterOf (doSetAll (waker Quick) (stateIn (hostIn (now (row .entry)) (now (adjustments .entry)))) identifier (now (values .entry)))) ⌝ }
+{
+    report(service::set_all(
+        row,
+        adjustments,
+        wakings,
+        Engine::Quick,
+        identifier,
+        values,
+    ))
 }
 
 #[no_mangle]

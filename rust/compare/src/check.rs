@@ -89,7 +89,7 @@ fn event_in_words(file: &[u8], position: usize) -> String {
     event.map_or("not in the file".to_string(), |event| format!("{event:?}"))
 }
 
-/// The text without the looks, the fourth field of every line that answers no query.
+/// The text without the looks, the fourth field of every line that shows no state.
 fn without_looks(text: &[u8], file: &[u8]) -> Vec<u8> {
     let run = match RunFile::read(file) {
         Ok(run) => run,

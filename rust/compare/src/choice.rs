@@ -8,6 +8,8 @@ use crate::random::Rng;
 use crate::scene::{Scene, Target};
 
 pub const MAX: i32 = 32_767;
+/// Out of the range of values: by one mostly, and where sixteen bits are not enough.
+const NO_VALUES: [i32; 7] = [-1, -1, MAX + 1, MAX + 1, 65_536, i32::MIN, i32::MAX];
 
 /// Brings an amount into the sixteen bits it has.
 pub fn narrow(amount: i32) -> i16 {
@@ -89,9 +91,10 @@ pub fn sleepy(scene: &mut Scene) -> Body {
 
 /// An event that may well wake somebody.
 pub fn stir(scene: &mut Scene) -> Body {
-    match scene.rng.below(6) {
+    match scene.rng.below(7) {
         0 | 1 => set_value(scene),
         2 => exit(scene),
+        3 => set_all(scene),
         _ => operate(scene),
     }
 }
@@ -103,20 +106,39 @@ pub fn create(scene: &mut Scene) -> Body {
     event::create(count, masks[0], masks[1])
 }
 
-pub fn set_value(scene: &mut Scene) -> Body {
-    let target = scene.target();
-    let rng = &mut scene.rng;
-    let number = number(rng, &target);
-    let present = target.values[usize::from(number)];
-    let value = match rng.below(12) {
+/// Small values mostly, the largest, the one that is there and those beside it.
+fn value(rng: &mut Rng, present: i32) -> i32 {
+    match rng.below(12) {
         0 => present,
         1 => MAX - rng.between(0, 4),
         2 => rng.between(0, MAX),
         3 => present + 1,
         4 => present - 1,
         _ => rng.between(0, 4),
-    };
+    }
+}
+
+pub fn set_value(scene: &mut Scene) -> Body {
+    let target = scene.target();
+    let number = number(&mut scene.rng, &target);
+    let value = value(&mut scene.rng, target.values[usize::from(number)]);
     event::set_value(target.identifier, number, value)
+}
+
+/// Values for all semaphores of a set, in range; some stay as they are, at times most of them.
+pub fn values(rng: &mut Rng, target: &Target) -> Vec<i32> {
+    let staying = rng.pick(&[0, 1, 3]);
+    let chosen = |&present: &i32| match rng.below(4) {
+        draw if draw < staying => present,
+        _ => value(rng, present).clamp(0, MAX),
+    };
+    target.values.iter().map(chosen).collect()
+}
+
+/// All values of a set.
+pub fn set_all(scene: &mut Scene) -> Body {
+    let target = scene.target();
+    event::set_all(target.identifier, &values(&mut scene.rng, &target))
 }
 
 pub fn remove(scene: &mut Scene) -> Body {
@@ -141,9 +163,21 @@ pub fn query(scene: &mut Scene) -> Body {
     event::query(target.identifier, number)
 }
 
+pub fn read_all(scene: &mut Scene) -> Body {
+    event::read_all(scene.target().identifier)
+}
+
+/// An event that asks for a state.
+pub fn ask(scene: &mut Scene) -> Body {
+    match scene.rng.below(2) {
+        0 => query(scene),
+        _ => read_all(scene),
+    }
+}
+
 /// Any event, as often as in everyday traffic.
 pub fn any(scene: &mut Scene) -> Body {
-    match scene.rng.below(40) {
+    match scene.rng.below(44) {
         0..=1 => create(scene),
         2..=6 => set_value(scene),
         7 => remove(scene),
@@ -152,6 +186,8 @@ pub fn any(scene: &mut Scene) -> Body {
         13..=17 => query(scene),
         18..=19 => refusal(scene),
         20..=27 => sleepy(scene),
+        28..=29 => set_all(scene),
+        30..=31 => read_all(scene),
         _ => operate(scene),
     }
 }
@@ -167,7 +203,7 @@ pub fn refusal(scene: &mut Scene) -> Body {
     let too_many = vec![operation(rng, &target); rng.pick(&[33, 33, 34, 64])];
     let most = rng.pick(&[7, 7, 7, OPERATIONS - 1]);
     let mut array = operations(rng, &target, most);
-    match rng.below(17) {
+    match rng.below(21) {
         0 => event::create(rng.pick(&[0, 9, 255]), 0xFF, 0xFF),
         1 => event::create(rng.between(1, 8) as u8, rng.byte(), rng.byte()),
         2 => event::operate(outside, rng.pick(&[target.identifier, stranger]), &array),
@@ -183,13 +219,29 @@ pub fn refusal(scene: &mut Scene) -> Body {
         }
         9 => event::set_value(stranger, 0, 40_000),
         10 => event::set_value(target.identifier, beyond, 40_000),
-        11 => event::set_value(target.identifier, 0, rng.pick(&[-1, 32_768, i32::MIN, i32::MAX])),
+        11 => event::set_value(target.identifier, 0, rng.pick(&NO_VALUES)),
         12 => event::remove(stranger),
         13 => event::signal(outside),
         14 => event::exit(outside),
         15 => event::query(stranger, number(rng, &target)),
-        _ => event::query(target.identifier, beyond),
+        16 => event::query(target.identifier, beyond),
+        17 => event::read_all(stranger),
+        18 => event::set_all(stranger, &values(rng, &target)),
+        _ => refused_setting(rng, &target),
     }
+}
+
+/// A setting of all values that are not as many as the set has, or with one out of range, or both.
+pub fn refused_setting(rng: &mut Rng, target: &Target) -> Body {
+    let count = target.values.len();
+    let number = rng.pick(&[0, count - 1, count + 1, 9, 255, count, count, count]);
+    let mut values = values(rng, target);
+    values.resize(number, rng.between(0, 4));
+    if number > 0 && (number == count || rng.once_in(2)) {
+        let inner = rng.below(number);
+        values[rng.pick(&[0, inner, number - 1])] = rng.pick(&NO_VALUES);
+    }
+    event::set_all(target.identifier, &values)
 }
 
 /// An identifier close to a live one that names nothing, mostly.
@@ -212,7 +264,7 @@ pub fn stale(scene: &mut Scene) -> i32 {
 /// one.
 pub fn random(scene: &mut Scene) -> Body {
     let rng = &mut scene.rng;
-    let (kind, operations) = (rng.pick(&EVENTS), rng.pick(&[0, 1, 2, 3, 8, 32, 33, 255]));
+    let (kind, length) = (rng.pick(&EVENTS), rng.pick(&[0, 1, 2, 3, 8, 32, 33, 255]));
     let mask = if rng.once_in(2) { 3 } else { u64::MAX };
-    (kind.drawn)(&mut || rng.next() & mask, operations)
+    (kind.drawn)(&mut || rng.next() & mask, length)
 }

@@ -3,7 +3,7 @@
 use second::event::{self, Body};
 use second::{run_file, ENTRY, FILE_MAX, HEAD};
 
-use crate::events::{EVENTS, UNKNOWN};
+use crate::events::{unknown, EVENTS};
 use crate::kind::Kind;
 use crate::kind::Make::Bytes;
 use crate::medley;
@@ -183,10 +183,10 @@ fn body_of_any_kind(rng: &mut Rng) -> Body {
 
 fn of_unknown_kind(rng: &mut Rng) -> Body {
     let mut body = body_of_any_kind(rng);
-    body[0] = match rng.below(3) {
-        0 => rng.pick(&[0, UNKNOWN]),
-        _ => rng.between(UNKNOWN.into(), 255) as u8,
-    };
+    let unknown = unknown();
+    // More often one of the lowest, which stand beside the known ones.
+    let some = if rng.once_in(3) { &unknown[..4] } else { &unknown };
+    body[0] = rng.pick(some);
     body
 }
 
@@ -216,10 +216,14 @@ fn wrong_length(rng: &mut Rng, bodies: Vec<Body>) -> Vec<u8> {
     with_body(rng, bodies, body)
 }
 
-/// An operate with another number of operations than it has.
+/// An operate with another number of operations than it has, or a setting with another of values.
 fn wrong_number(rng: &mut Rng, bodies: Vec<Body>) -> Vec<u8> {
-    let mut body = event::operate(1, 0, &vec![(0, 1, 0); rng.below(10)]);
-    body[6] = body[6].wrapping_add(rng.pick(&[1, 2, 43, 128, 255]));
+    let number = rng.below(10);
+    let (mut body, place) = match rng.below(2) {
+        0 => (event::operate(1, 0, &vec![(0, 1, 0); number]), 6),
+        _ => (event::set_all(0, &vec![1; number]), 5),
+    };
+    body[place] = body[place].wrapping_add(rng.pick(&[1, 2, 43, 64, 128, 255]));
     with_body(rng, bodies, body)
 }
 

@@ -24,7 +24,7 @@ struct Plan {
     to: i32,
 }
 
-/// A sleeper is ended by a set value, an operate or an exit, and calls again.
+/// A sleeper is ended by an operate, an exit, or a setting of one value or all, and calls again.
 pub fn deciding(scene: &mut Scene) {
     let target = scene.open_set(3);
     let id = target.identifier;
@@ -42,10 +42,11 @@ pub fn deciding(scene: &mut Scene) {
     let change = narrow(to - from);
     scene.push(event::operate(holder, id, &[(number, change, 0), (number, -change, UNDO)]));
     scene.push(event::operate(sleeper, id, &array));
-    // A set value would clear what the sleeper holds.
-    let end = match scene.rng.below(if taken > 0 { 2 } else { 3 }) {
+    // A setting would clear what the sleeper holds.
+    let end = match scene.rng.below(if taken > 0 { 2 } else { 4 }) {
         0 => event::operate(holder, id, &[(number, change, 0)]),
         1 => event::exit(holder),
+        2 => scene.setting(id, number, to),
         _ => event::set_value(id, number, to),
     };
     scene.push(end);

@@ -6,6 +6,8 @@ use crate::random::Rng;
 
 #[derive(Clone, Copy)]
 pub struct EventKind {
+    /// The first byte of its bodies.
+    pub number: u8,
     pub name: &'static str,
     /// It asks for a state: its line has neither looks nor wakings.
     pub asks: bool,
@@ -14,13 +16,14 @@ pub struct EventKind {
     pub wakings: &'static [i32],
     /// A good body of small numbers.
     pub small: fn(&mut Rng) -> Body,
-    /// A good body whose fields are drawn one by one; where it has operations, so many.
+    /// A good body whose fields are drawn one by one; where it has operations or values, so many.
     pub drawn: fn(&mut dyn FnMut() -> u64, usize) -> Body,
 }
 
-/// By their numbers, which begin with 1.
-pub const EVENTS: [EventKind; 7] = [
+/// By their numbers.
+pub const EVENTS: [EventKind; 9] = [
     EventKind {
+        number: 1,
         name: "create",
         asks: false,
         codes: &[0, 22, 28],
@@ -29,6 +32,7 @@ pub const EVENTS: [EventKind; 7] = [
         drawn: |field, _| event::create(field() as u8, field() as u8, field() as u8),
     },
     EventKind {
+        number: 2,
         name: "operate",
         asks: false,
         codes: &[0, -1, 3, 7, 11, 13, 16, 22, 27, 34],
@@ -41,6 +45,7 @@ pub const EVENTS: [EventKind; 7] = [
         },
     },
     EventKind {
+        number: 3,
         name: "set value",
         asks: false,
         codes: &[0, 22, 34],
@@ -49,6 +54,7 @@ pub const EVENTS: [EventKind; 7] = [
         drawn: |field, _| event::set_value(field() as i32, field() as u16, field() as i32),
     },
     EventKind {
+        number: 4,
         name: "remove",
         asks: false,
         codes: &[0, 22],
@@ -57,6 +63,7 @@ pub const EVENTS: [EventKind; 7] = [
         drawn: |field, _| event::remove(field() as i32),
     },
     EventKind {
+        number: 5,
         name: "signal",
         asks: false,
         codes: &[0, 3],
@@ -65,6 +72,7 @@ pub const EVENTS: [EventKind; 7] = [
         drawn: |field, _| event::signal(field() as u8),
     },
     EventKind {
+        number: 6,
         name: "exit",
         asks: false,
         codes: &[0, 3],
@@ -73,6 +81,7 @@ pub const EVENTS: [EventKind; 7] = [
         drawn: |field, _| event::exit(field() as u8),
     },
     EventKind {
+        number: 7,
         name: "query",
         asks: true,
         codes: &[0, 22],
@@ -80,12 +89,63 @@ pub const EVENTS: [EventKind; 7] = [
         small: |_| event::query(0, 0),
         drawn: |field, _| event::query(field() as i32, field() as u16),
     },
+    EventKind {
+        number: 10,
+        name: "set all",
+        asks: false,
+        codes: &[0, 22, 34],
+        wakings: &[0, 11, 34],
+        small: |rng| event::set_all(0, &vec![0; rng.below(10)]),
+        drawn: |field, values| {
+            let values: Vec<i32> = (0..values).map(|_| field() as i32).collect();
+            event::set_all(field() as i32, &values)
+        },
+    },
+    EventKind {
+        number: 11,
+        name: "read all",
+        asks: true,
+        codes: &[0, 22],
+        wakings: &[],
+        small: |_| event::read_all(0),
+        drawn: |field, _| event::read_all(field() as i32),
+    },
 ];
-
-/// The lowest number that no kind has; 0 and all above it are of no kind either.
-pub const UNKNOWN: u8 = EVENTS.len() as u8 + 1;
 
 /// Where the kind of a good body stands in `EVENTS`.
 pub fn place(body: &[u8]) -> usize {
-    usize::from(body[0]) - 1
+    EVENTS.iter().position(|kind| kind.number == body[0]).expect("a good body is of some kind")
+}
+
+/// The numbers that no kind has, from 0 up.
+pub fn unknown() -> Vec<u8> {
+    (0..=u8::MAX).filter(|number| EVENTS.iter().all(|kind| kind.number != *number)).collect()
+}
+
+#[cfg(test)]
+mod tests {
+    use super::*;
+    use second::{Bad, Event};
+
+    /// Those that the second program does not know either.
+    #[test]
+    fn unknown_numbers() {
+        let unknown = unknown();
+        assert_eq!(unknown[..5], [0, 8, 9, 12, 13]);
+        for number in 0..=u8::MAX {
+            let refused = matches!(Event::decode(&[number]), Err(Bad::Kind));
+            assert_eq!(refused, unknown.contains(&number), "kind {number}");
+        }
+    }
+
+    #[test]
+    fn bodies_are_good_and_of_their_kind() {
+        for (index, kind) in EVENTS.iter().enumerate() {
+            let mut rng = Rng::new(3, 0);
+            for body in [(kind.small)(&mut rng), (kind.drawn)(&mut || rng.next(), 255)] {
+                assert!(Event::decode(&body).is_ok(), "{}", kind.name);
+                assert_eq!(place(&body), index);
+            }
+        }
+    }
 }

@@ -12,10 +12,9 @@ use second::{replay, Rule};
 use crate::end::End;
 use crate::options::Options;
 use crate::program::{Feed, Program};
-use crate::traffic::Files;
+use crate::traffic::{Files, FILES};
 use crate::work;
 
-const FILES: u64 = 1_500;
 /// Once one rule has shown a fault, the other gets this many files at most: it may be right.
 const OTHER_RULE: usize = 100;
 
@@ -74,11 +73,16 @@ fn read_edits(folder: &Path) -> Result<Vec<Edit>, String> {
         paths.push(entry.map_err(in_folder)?.path());
     }
     paths.retain(|path| path.extension().map_or(false, |extension| extension == "edit"));
-    paths.sort();
+    paths.sort_by_key(|path| (number_of(path), path.clone()));
     if paths.is_empty() {
         return Err(format!("{} holds no .edit file", folder.display()));
     }
     paths.iter().map(|path| read_edit(path)).collect()
+}
+
+/// The number that the name of a file begins with.
+fn number_of(path: &Path) -> Option<u32> {
+    path.file_name()?.to_str()?.split('-').next()?.parse().ok()
 }
 
 fn read_edit(path: &Path) -> Result<Edit, String> {

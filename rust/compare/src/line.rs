@@ -11,7 +11,7 @@ pub struct Code {
 #[derive(Debug, PartialEq, Eq)]
 pub struct Line {
     pub code: Code,
-    /// Those behind the code: value and looks, or what a query shows.
+    /// Those behind the code: value and looks, or what a query or a reading shows.
     pub numbers: Vec<i32>,
     /// Processes, and the codes they are woken with.
     pub wakings: Vec<(u8, Code)>,
@@ -77,6 +77,15 @@ mod tests {
         assert_eq!(Line::read("1 -1@0 0 0"), Some(asleep));
         let shown = Line { code: code(0, None), numbers: vec![9, 8, 1, 2], wakings: vec![] };
         assert_eq!(Line::read("4 0 9 8 1 2"), Some(shown));
+    }
+
+    #[test]
+    fn of_readings() {
+        let numbers = vec![9, 1, 0, 32_767, 0, 2];
+        let shown = Line { code: code(0, None), numbers, wakings: vec![] };
+        assert_eq!(Line::read("4 0 9 1 0 32767 0 2"), Some(shown));
+        let refused = Line { code: code(22, None), numbers: vec![], wakings: vec![] };
+        assert_eq!(Line::read("7 22"), Some(refused));
     }
 
     #[test]

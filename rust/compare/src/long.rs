@@ -12,23 +12,24 @@ const FEW: usize = 20;
 /// No step adds or takes more than this.
 const STEP: i32 = 3;
 
-/// A long call or two, then what may wake a sleeper, and now and then a query.
+/// A long call or two, then what may wake a sleeper, and now and then what shows the state.
 pub fn long(scene: &mut Scene) {
     for _ in 0..scene.rng.between(1, 2) {
         scene.add(operate);
     }
     scene.seek(|answer| !wakings(answer).is_empty(), stir);
     if scene.rng.once_in(3) {
-        scene.add(choice::query);
+        scene.add(choice::ask);
     }
 }
 
 /// An event that may well wake somebody.
 fn stir(scene: &mut Scene) -> Body {
-    match scene.rng.below(6) {
+    match scene.rng.below(7) {
         0 => choice::set_value(scene),
         1 => choice::exit(scene),
         2 => choice::signal(scene),
+        3 => choice::set_all(scene),
         _ => operate(scene),
     }
 }

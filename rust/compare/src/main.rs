@@ -24,7 +24,9 @@ mod steady;
 mod sweep;
 mod tally;
 mod traffic;
+mod values;
 mod versus;
+mod wholes;
 mod work;
 mod zeros;
 

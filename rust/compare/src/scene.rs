@@ -100,15 +100,35 @@ impl Scene {
         if let Some(target) = self.targets().into_iter().find(fits) {
             return target;
         }
+        let count = self.rng.between(count as i32, 8) as u8;
+        self.new_set(count)
+    }
+
+    /// A new set open to all; where there is no room for it, another is removed.
+    pub fn new_set(&mut self, count: u8) -> Target {
         if let [_, _, _, last] = &self.targets()[..] {
             self.push(event::remove(last.identifier));
         }
-        let size = self.rng.between(count as i32, 8) as u8;
-        let identifier = match self.push(event::create(size, 0xFF, 0xFF)) {
+        let identifier = match self.push(event::create(count, 0xFF, 0xFF)) {
             Answer::Event(report) => report.value,
-            Answer::Query(_) => 0,
+            Answer::Query(_) | Answer::Reading(_) => 0,
         };
-        Target { identifier, values: vec![0; size.into()], open: true }
+        Target { identifier, values: vec![0; count.into()], open: true }
+    }
+
+    /// A setting of all values that changes one at most, and leaves the others as they are.
+    pub fn setting(&self, identifier: i32, number: u16, value: i32) -> Body {
+        let mut values = self.values(identifier);
+        if let Some(present) = values.get_mut(usize::from(number)) {
+            *present = value;
+        }
+        event::set_all(identifier, &values)
+    }
+
+    /// The values of a set; none where it is not live.
+    pub fn values(&self, identifier: i32) -> Vec<i32> {
+        let set = self.targets().into_iter().find(|target| target.identifier == identifier);
+        set.map_or(Vec::new(), |target| target.values)
     }
 
     pub fn is_asleep(&self, process: u8) -> bool {
@@ -154,10 +174,9 @@ impl Scene {
             let signal = self.rng.once_in(2);
             self.push(if signal { event::signal(process) } else { event::exit(process) });
         }
-        for target in self.targets().iter().filter(|target| target.identifier == identifier) {
-            for (number, _) in target.values.iter().enumerate().filter(|(_, &value)| value != 0) {
-                self.push(event::set_value(identifier, number as u16, 0));
-            }
+        let values = self.values(identifier);
+        for (number, _) in values.iter().enumerate().filter(|(_, &value)| value != 0) {
+            self.push(event::set_value(identifier, number as u16, 0));
         }
     }
 }
@@ -170,7 +189,7 @@ fn handle(host: &mut Host, body: &[u8]) -> Answer {
 pub fn wakings(answer: &Answer) -> &[Waking] {
     match answer {
         Answer::Event(report) => report.wakings.as_slice(),
-        Answer::Query(_) => &[],
+        Answer::Query(_) | Answer::Reading(_) => &[],
     }
 }
 

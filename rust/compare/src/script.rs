@@ -17,7 +17,7 @@ pub fn random(scene: &mut Scene) {
 }
 
 /// Sends processes to sleep until so many are.
-fn fill(scene: &mut Scene, asleep: usize) {
+pub fn fill(scene: &mut Scene, asleep: usize) {
     for _ in 0..24 {
         if scene.asleep().len() >= asleep {
             break;
@@ -33,7 +33,7 @@ pub fn dense(scene: &mut Scene) {
     for _ in 0..scene.rng.between(1, 4) {
         scene.seek(|answer| !wakings(answer).is_empty(), choice::stir);
     }
-    scene.add(choice::query);
+    scene.add(choice::ask);
 }
 
 /// Situation 11: each sleeper that is woken frees the next, mostly from the newest to the oldest.
@@ -54,10 +54,10 @@ pub fn chain(scene: &mut Scene) {
         }
         scene.push(event::operate(link as u8 + 1, target.identifier, &array));
     }
-    let first = if links < 8 && scene.rng.once_in(2) {
-        event::operate(8, target.identifier, &[(links - 1, 1, 0)])
-    } else {
-        event::set_value(target.identifier, links - 1, 1)
+    let first = match scene.rng.below(4) {
+        0 | 1 if links < 8 => event::operate(8, target.identifier, &[(links - 1, 1, 0)]),
+        2 => scene.setting(target.identifier, links - 1, 1),
+        _ => event::set_value(target.identifier, links - 1, 1),
     };
     scene.push(first);
 }
@@ -87,14 +87,23 @@ pub fn undo(scene: &mut Scene) {
     }
     if scene.rng.once_in(4) {
         let value = scene.rng.pick(&[0, 1, MAX]);
-        scene.push(event::set_value(target.identifier, number, value));
+        set(scene, target.identifier, number, value);
     }
     scene.push(event::exit(holder));
     scene.push(event::query(target.identifier, number));
 }
 
-/// Set value to the number that is there: it touches all the same, and the adjustments it clears
-/// can change an outcome.
+/// Sets a value, or all of its set, of which the others stay as they are.
+fn set(scene: &mut Scene, identifier: i32, number: u16, value: i32) {
+    let body = match scene.rng.below(2) {
+        0 => event::set_value(identifier, number, value),
+        _ => scene.setting(identifier, number, value),
+    };
+    scene.push(body);
+}
+
+/// Values are set to what is there: it touches all the same, and the adjustments that it clears can
+/// change an outcome.
 pub fn same_value(scene: &mut Scene) {
     let target = scene.open_set(2);
     let (a, b) = two_numbers(&mut scene.rng, &target);
@@ -107,15 +116,15 @@ pub fn same_value(scene: &mut Scene) {
         let up = narrow(scene.rng.between(16_384, MAX));
         let array = [(a, up, UNDO), (a, -up, 0), (a, up, UNDO), (b, -1, 0)];
         scene.push(event::operate(holder, id, &array));
-        scene.push(event::query(id, b));
-        scene.push(event::set_value(id, a, 0));
+        scene.push(event::read_all(id));
+        set(scene, id, a, 0);
     } else {
         fill(scene, 3);
     }
     for target in scene.targets() {
         let number = choice::number(&mut scene.rng, &target);
         let value = target.values[usize::from(number)];
-        scene.push(event::set_value(target.identifier, number, value));
+        set(scene, target.identifier, number, value);
     }
     scene.push(event::exit(other));
 }
@@ -140,8 +149,9 @@ pub fn extremes(scene: &mut Scene) {
     scene.push(event::query(target.identifier, number));
 }
 
-/// A semaphore changes under a sleeper that waits at another: by set value, by operate, or by the
-/// exit of a process that holds an adjustment. `code` is how the sleeper ends.
+/// A semaphore changes under a sleeper that waits at another: by set value, by operate, by the exit
+/// of a process that holds an adjustment, or by a setting of all values. `code` is how the sleeper
+/// ends.
 fn change_under(scene: &mut Scene, code: u8) {
     let target = scene.open_set(2);
     let id = target.identifier;
@@ -162,9 +172,10 @@ fn change_under(scene: &mut Scene, code: u8) {
         let asleep = scene.asleep().len() + 2;
         fill(scene, asleep.min(7));
     }
-    let change = match scene.rng.below(3) {
+    let change = match scene.rng.below(4) {
         0 => event::set_value(id, a, to),
         1 => event::operate(holder, id, &[(a, narrow(to - from), 0)]),
+        2 => scene.setting(id, a, to),
         _ => event::exit(holder),
     };
     scene.push(change);
@@ -200,10 +211,12 @@ pub fn generations(scene: &mut Scene) {
     let stale = choice::stale(scene);
     scene.push(event::create(8, 0xFF, 0xFF));
     scene.push(event::operate(caller, id, &[(number, 1, 0)]));
+    scene.push(event::set_all(id, &target.values));
     scene.push(event::query(stale, number));
+    scene.push(event::read_all(stale));
     scene.push(event::remove(id));
     scene.push(event::exit(caller));
-    scene.add(choice::query);
+    scene.add(choice::ask);
 }
 
 /// A process that holds adjustments in several sets exits, and wakes sleepers in them.
@@ -243,7 +256,7 @@ pub fn refusals(scene: &mut Scene) {
     scene.add(choice::refusal);
 }
 
-/// Every semaphore of every set is asked for, with sleepers at them.
+/// Every semaphore of every set is asked for, each alone and all at once, with sleepers at them.
 pub fn queries(scene: &mut Scene) {
     let asleep = scene.rng.between(2, 8) as usize;
     fill(scene, asleep);
@@ -251,6 +264,7 @@ pub fn queries(scene: &mut Scene) {
         for number in 0..=target.values.len() as u16 {
             scene.push(event::query(target.identifier, number));
         }
+        scene.push(event::read_all(target.identifier));
     }
     scene.add(choice::stir);
 }

@@ -8,7 +8,7 @@ use crate::kind::Kind;
 use crate::kind::Make::Script;
 use crate::scene::Scene;
 
-pub static STEADY: [Kind; 2] = [
+pub static STEADY: [Kind; 4] = [
     Kind::new(
         "counts",
         Script(counts),
@@ -19,14 +19,37 @@ pub static STEADY: [Kind; 2] = [
         Script(settings),
         "set value alone, looking at seven asleep and waking nobody",
     ),
+    Kind::new(
+        "readings",
+        Script(readings),
+        "readings of a set alone, with eight asleep on eight operations each",
+    ),
+    Kind::new(
+        "starts",
+        Script(starts),
+        "settings of all values, with seven asleep of which some wake",
+    ),
 ];
 
-/// The most that `settings` sets.
+/// The most that `settings` and `starts` set semaphore 0 to.
 const MOST: i32 = 4;
 
-/// Every array names all eight semaphores and stops at its last operation, at another semaphore
-/// for each process. So every query judges all eight arrays to the end, and counts one.
+/// A query judges all eight arrays to the end, and counts one.
 fn counts(scene: &mut Scene) {
+    let id = eight_asleep(scene);
+    let number = scene.rng.below(8) as u16;
+    scene.push(event::query(id, number));
+}
+
+/// A reading judges all eight arrays to the end, and counts one at each semaphore.
+fn readings(scene: &mut Scene) {
+    let id = eight_asleep(scene);
+    scene.push(event::read_all(id));
+}
+
+/// Every array names all eight semaphores and stops at its last operation, at another semaphore
+/// for each process.
+fn eight_asleep(scene: &mut Scene) -> i32 {
     let id = scene.open_set(8).identifier;
     for process in scene.awake() {
         let mut array: Vec<Operation> = Vec::new();
@@ -36,8 +59,7 @@ fn counts(scene: &mut Scene) {
         array.push((u16::from(process) % 8, -1, 0));
         scene.push(event::operate(process, id, &array));
     }
-    let number = scene.rng.below(8) as u16;
-    scene.push(event::query(id, number));
+    id
 }
 
 /// Every array ends by taking more from semaphore 0 than it is ever set to.
@@ -55,6 +77,23 @@ fn settings(scene: &mut Scene) {
     scene.push(event::set_value(id, 0, value));
 }
 
+/// Every array ends by taking from the semaphore of its process. One setting in three puts one of
+/// these to 1; who is woken calls again before the next.
+fn starts(scene: &mut Scene) {
+    let id = scene.open_set(8).identifier;
+    for process in scene.awake().into_iter().filter(|&process| process != 8) {
+        let mut array: Vec<Operation> = vec![(0, 1, scene.rng.pick(&[0, UNDO])); 3];
+        array.push((process.into(), -1, 0));
+        scene.push(event::operate(process, id, &array));
+    }
+    let mut values = [0; 8];
+    if scene.rng.once_in(3) {
+        values[1 + scene.rng.below(7)] = 1;
+    }
+    values[0] = scene.rng.between(0, MOST);
+    scene.push(event::set_all(id, &values));
+}
+
 #[cfg(test)]
 mod tests {
     use super::*;
@@ -68,7 +107,6 @@ mod tests {
         let answer = |body: &Vec<u8>| host.handle(&Event::decode(body).expect("a good body"));
         let mut answers: Vec<Answer> = bodies.iter().map(answer).collect();
         assert!(answers[1..=asleep].iter().all(|answer| answer.code() == -1));
-        assert_eq!(host.asleep().count_ones() as usize, asleep);
         answers.split_off(asleep + 1)
     }
 
@@ -81,6 +119,35 @@ mod tests {
             _ => false,
         };
         assert!(answers(counts, Rule::Quick, 8).iter().all(counts_one));
+    }
+
+    #[test]
+    fn a_reading_counts_one_at_each_of_eight() {
+        let one = |state: &State| state.for_increase.count_ones() == 1 && state.for_zero == 0;
+        let counts_one = |answer: &Answer| match answer {
+            Answer::Reading(reading) => {
+                reading.states().len() == 8 && reading.states().iter().all(one)
+            }
+            _ => false,
+        };
+        assert!(answers(readings, Rule::Quick, 8).iter().all(counts_one));
+    }
+
+    /// Who wakes changes semaphore 0, which all name: the six others are looked at once more.
+    #[test]
+    fn a_start_looks_at_seven_and_wakes_one_at_most() {
+        for rule in [Rule::Quick, Rule::Plain] {
+            let mut woken = [0; 2];
+            for answer in answers(starts, rule, 7) {
+                match answer {
+                    Answer::Event(Report { code: 0, looks: 7..=13, wakings, .. }) => {
+                        woken[wakings.as_slice().len()] += 1;
+                    }
+                    _ => assert_eq!(answer.code(), -1),
+                }
+            }
+            assert!(woken[0] > 500 && woken[1] > 250, "{woken:?}");
+        }
     }
 
     #[test]

@@ -1,15 +1,17 @@
 //! Files that every seed has. Small ones in full: every cut of the whole example, every changed bit
 //! of its table, every unknown kind, and every length of each kind. And a few largest ones: long
-//! arrays, and any operation that decides.
+//! arrays, any operation that decides, and whole sets.
 
-use second::event::{operate, Body};
+use second::event::{operate, set_all, Body};
 use second::{run_file, FILE_MAX};
 
 use crate::deciding::deciding;
-use crate::events::UNKNOWN;
+use crate::events::{unknown, EVENTS};
 use crate::long::long;
 use crate::random::Rng;
 use crate::scene::Scene;
+use crate::script::same_value;
+use crate::values::whole;
 
 /// The whole example of 44 bytes: create, an operate that sleeps, one that wakes it.
 const EXAMPLE: [u8; 44] = [
@@ -27,7 +29,7 @@ pub fn files() -> Vec<Vec<u8>> {
     files.extend(changed_tables());
     files.extend(sums_that_go_round());
     files.extend(kinds_and_lengths().into_iter().map(|body| run_file(&[body])));
-    files.extend(arrays());
+    files.extend(largest());
     files
 }
 
@@ -61,26 +63,36 @@ fn sums_that_go_round() -> Vec<Vec<u8>> {
 fn kinds_and_lengths() -> Vec<Body> {
     let mut bodies = vec![Body::new()];
     for length in 1..20 {
-        for kind in 1..UNKNOWN {
+        for kind in EVENTS {
             let mut body = vec![0; length];
-            body[0] = kind;
+            body[0] = kind.number;
             bodies.push(body);
         }
     }
-    for number in (0..11_usize).chain([31, 32, 33, 34, 254, 255]) {
-        for present in [number, 0, number + 1, number.saturating_sub(1), 256] {
-            let mut body = operate(1, 0, &vec![(0, 1, 0); present]);
-            body[6] = number as u8;
-            bodies.push(body);
-        }
+    for number in (0..11).chain([31, 32, 33, 34, 254, 255]) {
+        bodies.extend(numbered(number, 6, |present| operate(1, 0, &vec![(0, 1, 0); present])));
     }
-    bodies.extend([0].into_iter().chain(UNKNOWN..=255).map(|kind| vec![kind, 1]));
+    for number in (0..11).chain([64, 254, 255]) {
+        bodies.extend(numbered(number, 5, |present| set_all(0, &vec![1; present])));
+    }
+    bodies.extend(unknown().into_iter().map(|kind| vec![kind, 1]));
     bodies
 }
 
-/// Enough of them to show every decision and length that has to come.
-fn arrays() -> impl Iterator<Item = Vec<u8>> {
-    let scripts = [long, deciding, deciding, deciding, deciding];
+/// Bodies that say at a place how many operations or values they have, and have so many or not.
+fn numbered(number: u8, place: usize, body: fn(usize) -> Body) -> impl Iterator<Item = Body> {
+    let said = usize::from(number);
+    let present = [said, 0, said + 1, said.saturating_sub(1), 256].into_iter();
+    present.map(body).map(move |mut body| {
+        body[place] = number;
+        body
+    })
+}
+
+/// Enough of them to show every decision and length that has to come, and all that has to come of
+/// whole sets.
+fn largest() -> impl Iterator<Item = Vec<u8>> {
+    let scripts = [long, deciding, deciding, deciding, deciding, whole, whole, same_value];
     let full = |(script, file)| run_file(&Scene::played(script, Rng::new(0, file), FILE_MAX));
     scripts.into_iter().zip(0..).map(full)
 }

@@ -10,6 +10,7 @@ use crate::events::{self, EventKind, EVENTS};
 use crate::lengths::{Length, Lengths, LENGTHS};
 use crate::line::Line;
 use crate::positions::{Decision, Positions, DECISIONS};
+use crate::wholes::{Whole, Wholes, WHOLES};
 use crate::zeros::{When, Zeros, WHENS};
 
 const BAD: [i32; 4] = [201, 202, 203, 204];
@@ -35,6 +36,8 @@ pub struct Tally {
     decided: Counts<(Decision, u8)>,
     /// How arrays ended, by their lengths.
     lengths: Counts<(Length, i32)>,
+    /// How whole sets were set and read.
+    wholes: Counts<(Whole, i32)>,
     /// Queries that show a last process set by an amount of 0.
     by_zero: Counts<When>,
 }
@@ -58,13 +61,14 @@ impl Tally {
             *self.bad.entry(code).or_default() += 1;
         } else if let Ok(run) = RunFile::read(file) {
             let (mut zeros, mut positions) = (Zeros::default(), Positions::default());
-            let mut lengths = Lengths::default();
+            let (mut lengths, mut wholes) = (Lengths::default(), Wholes::default());
             for ((body, event), (quick, plain)) in run.bodies().zip(run.events()).zip(lines) {
                 let quick = Line::read(quick).ok_or_else(|| no_line(quick))?;
                 let plain = Line::read(plain).ok_or_else(|| no_line(plain))?;
                 self.add_line(events::place(body), &quick, &plain);
                 count_each(&mut self.decided, positions.follow(event, &quick));
                 count_each(&mut self.lengths, lengths.follow(event, &quick));
+                count_each(&mut self.wholes, wholes.follow(event, &quick));
                 count_each(&mut self.by_zero, zeros.follow(event, &quick));
             }
         }
@@ -98,6 +102,7 @@ impl Tally {
         add_all(&mut self.plain_looks, other.plain_looks);
         add_all(&mut self.decided, other.decided);
         add_all(&mut self.lengths, other.lengths);
+        add_all(&mut self.wholes, other.wholes);
         add_all(&mut self.by_zero, other.by_zero);
     }
 
@@ -128,6 +133,9 @@ impl Tally {
         for (length, name, _) in LENGTHS {
             row(name, entries(of(&self.lengths, length)));
         }
+        for (whole, name, _) in WHOLES {
+            row(name, entries(of(&self.wholes, whole)));
+        }
         row("looks, quick rule", entries(self.quick_looks.iter()));
         row("looks, plain rule", entries(self.plain_looks.iter()));
         let count = |when| self.by_zero.get(&when).copied().unwrap_or(0);
@@ -141,6 +149,7 @@ impl Tally {
     pub fn missing(&self) -> Vec<String> {
         let mut missing = self.missing_codes();
         missing.extend(self.missing_arrays());
+        missing.extend(lacking_rows(&self.wholes, &WHOLES));
         let whens = WHENS.iter().filter(|(when, _)| !self.by_zero.contains_key(when));
         missing.extend(whens.map(|(_, name)| format!("a last process set by 0 {name}")));
         let bad = BAD.iter().filter(|code| !self.bad.contains_key(code));
@@ -169,10 +178,7 @@ impl Tally {
             let lacking = lacking(&self.decided, decision, positions);
             missing.extend(lacking.map(|at| format!("{name} {at}")));
         }
-        for (length, name, codes) in LENGTHS {
-            let lacking = lacking(&self.lengths, length, codes.iter().copied());
-            missing.extend(lacking.map(|code| format!("{name} {code}")));
-        }
+        missing.extend(lacking_rows(&self.lengths, &LENGTHS));
         missing
     }
 }
@@ -189,7 +195,20 @@ fn add_all<K: Ord>(counts: &mut Counts<K>, others: Counts<K>) {
     }
 }
 
-/// Those of the wanted numbers that never came with one event, decision or length.
+/// All that never came of some rows: each with its name and the numbers that have to come.
+fn lacking_rows<K: Copy + Ord>(
+    counts: &Counts<(K, i32)>,
+    rows: &[(K, &str, &[i32])],
+) -> Vec<String> {
+    let mut missing = Vec::new();
+    for (key, name, numbers) in rows {
+        let lacking = lacking(counts, *key, numbers.iter().copied());
+        missing.extend(lacking.map(|number| format!("{name} {number}")));
+    }
+    missing
+}
+
+/// Those of the wanted numbers that never came with one event or row.
 fn lacking<'a, K: Copy + Ord + 'a, N: Copy + Ord>(
     counts: &'a Counts<(K, N)>,
     key: K,
@@ -198,7 +217,7 @@ fn lacking<'a, K: Copy + Ord + 'a, N: Copy + Ord>(
     wanted.filter(move |number| !counts.contains_key(&(key, *number)))
 }
 
-/// The counts of one event, decision or length.
+/// The counts of one event or row.
 fn of<K: PartialEq, N>(counts: &Counts<(K, N)>, wanted: K) -> impl Iterator<Item = (&N, &u64)> {
     counts
         .iter()
@@ -220,14 +239,15 @@ mod tests {
     use crate::sweep;
     use second::{replay, Rule};
 
-    /// The files that every seed has show all decisions and lengths.
+    /// The files that every seed has show all decisions and lengths, and all of whole sets.
     #[test]
-    fn the_sweep_reaches_all_of_arrays() {
+    fn the_sweep_reaches_all_of_arrays_and_sets() {
         let mut tally = Tally::default();
         for file in sweep::files() {
             let [quick, plain] = [Rule::Quick, Rule::Plain].map(|rule| replay(&file, rule));
             tally.add(&file, &Texts { quick, plain }).expect("lines");
         }
         assert_eq!(tally.missing_arrays(), [""; 0]);
+        assert_eq!(lacking_rows(&tally.wholes, &WHOLES), [""; 0]);
     }
 }

@@ -11,6 +11,9 @@ use crate::random::Rng;
 use crate::steady::STEADY;
 use crate::sweep;
 
+/// Files of a seed that show something of each kind, and all of the sweep.
+pub const FILES: u64 = 2_000;
+
 /// The kinds that a seed draws from. In another order it would have other files.
 fn drawn() -> impl Iterator<Item = &'static Kind> {
     iter::once(&MEDLEY).chain(&SCRIPTS).chain(&DAMAGED)
@@ -99,8 +102,18 @@ mod tests {
     }
 
     #[test]
+    fn the_sweep_has_an_end() {
+        assert!(2 * Files::new(7).sweep.len() <= FILES as usize);
+    }
+
+    #[test]
     fn sleepers_are_as_many_as_said() {
-        assert!(asleep("seven")[8..].iter().all(|&asleep| asleep == 7));
+        for (kind, many) in [("seven", 7), ("counts", 8), ("settings", 7), ("readings", 8)] {
+            let settled = &asleep(kind)[many as usize + 1..];
+            assert!(settled.iter().all(|&asleep| asleep == many), "{kind}");
+        }
+        // Only one that was woken is awake, and calls again.
+        assert!(asleep("starts")[8..].windows(2).all(|pair| pair.contains(&7)));
         let dense = asleep("dense");
         for many in [7, 8] {
             assert!(dense.iter().filter(|&&asleep| asleep == many).count() > 300);

@@ -8,10 +8,8 @@ use crate::end::End;
 use crate::options::Options;
 use crate::program::{Feed, Program};
 use crate::tally::Tally;
-use crate::traffic::Files;
+use crate::traffic::{Files, FILES};
 use crate::work;
-
-const FILES: u64 = 2_000;
 
 /// What one worker saw.
 #[derive(Default)]

@@ -14,6 +14,10 @@ pub fn encode(event: &Event) -> Vec<u8> {
             Field::Identifier(value) | Field::Value(value) => {
                 body.extend_from_slice(&value.to_le_bytes());
             }
+            Field::Values(values) => {
+                body.push(values.len() as u8);
+                body.extend(values.iter().flat_map(|value| value.to_le_bytes()));
+            }
             Field::Operations(operations) => {
                 body.push(operations.len() as u8);
                 for operation in operations {
@@ -42,6 +46,7 @@ pub fn decode(body: &[u8]) -> Result<Event, Refusal> {
             Field::Count(value) | Field::Process(value) | Field::Mask(value) => *value = bytes.u8(),
             Field::Number(value) => *value = bytes.u16(),
             Field::Identifier(value) | Field::Value(value) => *value = bytes.i32(),
+            Field::Values(values) => *values = bytes.values(),
             Field::Operations(operations) => *operations = bytes.operations(),
         }
     }
@@ -84,6 +89,11 @@ impl Bytes<'_> {
 
     fn i32(&mut self) -> i32 {
         i32::from_le_bytes(self.take())
+    }
+
+    fn values(&mut self) -> Vec<i32> {
+        let count = self.u8();
+        (0..count).map(|_| self.i32()).collect()
     }
 
     fn operations(&mut self) -> Vec<Operation> {

@@ -1,4 +1,4 @@
-//! The seven events. All that a kind has of its own is said here.
+//! The nine events. All that a kind has of its own is said here.
 
 use std::mem::discriminant;
 
@@ -7,6 +7,7 @@ use crate::count::counted;
 use crate::field::Field;
 use crate::mask;
 use crate::operation::{array_in_words, Operation};
+use crate::values;
 
 /// Any value that fits the body is kept, also one that every host refuses.
 #[derive(Clone, Debug, PartialEq, Eq)]
@@ -40,6 +41,14 @@ pub enum Event {
         identifier: i32,
         number: u16,
     },
+    /// At most 255 values, since their number is one byte.
+    SetAll {
+        identifier: i32,
+        values: Vec<i32>,
+    },
+    ReadAll {
+        identifier: i32,
+    },
 }
 
 pub struct Kind {
@@ -52,7 +61,7 @@ pub struct Kind {
     pub blank: Event,
 }
 
-pub static KINDS: [Kind; 7] = [
+pub static KINDS: [Kind; 9] = [
     Kind {
         number: 1,
         word: "create",
@@ -75,10 +84,23 @@ pub static KINDS: [Kind; 7] = [
     Kind { number: 5, word: "signal", about: "", blank: Event::Signal { process: 0 } },
     Kind { number: 6, word: "exit", about: "", blank: Event::Exit { process: 0 } },
     Kind { number: 7, word: "query", about: "", blank: Event::Query { identifier: 0, number: 0 } },
+    Kind {
+        number: 10,
+        word: "set-all",
+        about: "set all values of a set at once",
+        blank: Event::SetAll { identifier: 0, values: Vec::new() },
+    },
+    Kind {
+        number: 11,
+        word: "read-all",
+        about: "all values of a set, and how many wait",
+        blank: Event::ReadAll { identifier: 0 },
+    },
 ];
 
 const NO_SET: &str = "no live set has this identifier";
 const NO_SEMAPHORE: &str = "no live set has this identifier, or it has no such semaphore";
+const OTHER_COUNT: &str = "no live set has this identifier, or it has another number of semaphores";
 
 impl Event {
     pub fn kind(&self) -> &'static Kind {
@@ -110,6 +132,10 @@ impl Event {
             Event::Query { identifier, number } => {
                 vec![("", Field::Identifier(identifier)), ("number=", Field::Number(number))]
             }
+            Event::SetAll { identifier, values } => {
+                vec![("", Field::Identifier(identifier)), ("values=", Field::Values(values))]
+            }
+            Event::ReadAll { identifier } => vec![("", Field::Identifier(identifier))],
         }
     }
 
@@ -135,12 +161,22 @@ impl Event {
             Event::Query { identifier, number } => {
                 format!("query semaphore {number} of set {identifier}")
             }
+            Event::SetAll { identifier, values } => {
+                format!("set all of set {identifier} to {}", values::in_words(values))
+            }
+            Event::ReadAll { identifier } => format!("read all of set {identifier}"),
         }
     }
 
     /// Are sleepers looked at once it is done?
     pub fn looks(&self) -> bool {
-        matches!(self, Event::Operate { .. } | Event::SetValue { .. } | Event::Exit { .. })
+        matches!(
+            self,
+            Event::Operate { .. }
+                | Event::SetValue { .. }
+                | Event::SetAll { .. }
+                | Event::Exit { .. }
+        )
     }
 
     /// Why the event is refused with this code.
@@ -150,7 +186,7 @@ impl Event {
             (Event::Create { .. }, 28) => "no slot is free",
             (Event::Operate { .. }, 16) => "the process is asleep",
             (Event::Operate { operations, .. }, 22) if operations.is_empty() => "no operations",
-            (Event::Operate { .. } | Event::Remove { .. }, 22) => NO_SET,
+            (Event::Operate { .. } | Event::Remove { .. } | Event::ReadAll { .. }, 22) => NO_SET,
             (Event::Operate { .. }, 7) => "too many operations",
             (Event::Operate { .. }, 27) => "the set has no such semaphore",
             (Event::Operate { .. }, 13) => "the set's masks don't permit it",
@@ -158,6 +194,8 @@ impl Event {
             (Event::Operate { .. }, 34) => OUT_OF_RANGE,
             (Event::SetValue { .. } | Event::Query { .. }, 22) => NO_SEMAPHORE,
             (Event::SetValue { .. }, 34) => "the value isn't 0 to 32767",
+            (Event::SetAll { .. }, 22) => OTHER_COUNT,
+            (Event::SetAll { .. }, 34) => "a value isn't 0 to 32767",
             (Event::Operate { .. } | Event::Signal { .. } | Event::Exit { .. }, 3) => {
                 "no such process"
             }

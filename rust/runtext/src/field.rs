@@ -10,6 +10,8 @@ pub enum Field<'a> {
     /// The number of a semaphore.
     Number(&'a mut u16),
     Value(&'a mut i32),
+    /// The values of a whole set.
+    Values(&'a mut Vec<i32>),
     Mask(&'a mut u8),
     Operations(&'a mut Vec<Operation>),
 }

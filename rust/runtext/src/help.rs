@@ -28,6 +28,7 @@ fn form(kind: &Kind) -> String {
             Field::Identifier(_) => "ID",
             Field::Number(_) => "N",
             Field::Value(_) => "V",
+            Field::Values(_) => "VALUES",
             Field::Mask(_) => "MASK",
             Field::Operations(_) => "OPERATION...",
         };
@@ -50,6 +51,8 @@ mod tests {
             "  create COUNT [read=MASK] [alter=MASK]    a set of COUNT semaphores\n",
             "  operate PROCESS set=ID OPERATION...      all the operations, or sleep\n",
             "  remove ID\n",
+            "  set-all ID values=VALUES                 set all values of a set at once\n",
+            "  read-all ID                              all values of a set, and how many wait\n",
         ] {
             assert!(text.contains(line), "{line} is not in\n{text}");
         }

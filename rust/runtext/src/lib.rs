@@ -6,8 +6,9 @@
 //!
 //! Data goes one way: text or bytes to events (`parse`, `runfile`), events to bytes or text
 //! (`runfile`, `print`). A story hands bytes to the program, reads its lines (`answer`), and puts
-//! queries behind the events (`questions`) to learn the values. What the kinds of events are stands
-//! in `event`; texts, bodies and the help go by that. What a story shows is what the program wrote.
+//! readings behind the events (`questions`) to learn the values. What the kinds of events are
+//! stands in `event`; texts, bodies and the help go by that. What a story shows is what the program
+//! wrote.
 //! One rule of the service is in here, to say at which value an operation decided (`decided`,
 //! `sleepers`): an array is judged in order, and one that is applied adds its amounts.
 
@@ -35,6 +36,7 @@ mod scan;
 mod scene;
 mod sleepers;
 pub mod story;
+mod values;
 mod words;
 
 pub use field::Field;

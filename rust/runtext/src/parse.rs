@@ -2,12 +2,14 @@
 //!
 //! One event a line; blank lines are skipped, and a comment goes from `#` to the end of its line.
 //! Words are parted by blanks: the first is that of the event's kind, then come its fields in their
-//! order, some behind a name as in `set=`. A field is a number, but for operations and masks:
+//! order, some behind a name as in `set=`. A field is a number, but for operations, masks and the
+//! values of a whole set:
 //!
 //! ```text
 //! operation = number ":" amount ["/" flag {"," flag}]
 //! flag      = "undo" | "nowait" | "0x" hexadecimal digits
 //! mask      = "all" | "none" | process {"," process} | "0x" hexadecimal digits
+//! values    = "none" | value {"," value}
 //! ```
 //!
 //! A mask left out is `all`. Numbers are decimal and go as far as their fields in the body; an
@@ -17,17 +19,16 @@ use crate::event::{Event, KINDS};
 use crate::field::Field;
 use crate::mask;
 use crate::mistake::Mistake;
-use crate::operation::{self, Operation, NUMBER};
+use crate::operation::{self, NUMBER};
 use crate::runfile::{self, FILE_MAX, HEAD};
-use crate::scan::Words;
+use crate::scan::{list, Words};
+use crate::values;
 
 const COUNT: &str = "a count of semaphores, 0 to 255";
 const PROCESS: &str = "a process, 0 to 255";
 const IDENTIFIER: &str = "an identifier, -2147483648 to 2147483647";
 const VALUE: &str = "a value, -2147483648 to 2147483647";
 const END: &str = "the end of the line";
-/// The number of operations is one byte of the body.
-const OPERATIONS: &str = "the end of the line after 255 operations";
 
 /// The events of a text, which fit into one run file.
 pub fn events(text: &[u8]) -> Result<Vec<Event>, Mistake> {
@@ -89,7 +90,12 @@ fn fill_in(event: &mut Event, words: &mut Words) -> Result<(), Mistake> {
             Field::Identifier(identifier) => *identifier = words.number(name, IDENTIFIER)?,
             Field::Number(number) => *number = words.number(name, NUMBER)?,
             Field::Value(value) => *value = words.number(name, VALUE)?,
-            Field::Operations(operations) => *operations = all_operations(words)?,
+            Field::Values(values) => {
+                *values = values::parse(words.field(name, values::EXPECTED)?)?;
+            }
+            Field::Operations(operations) => {
+                *operations = list(&mut *words, operation::parse, "operations")?;
+            }
             Field::Mask(mask) => match words.option(name) {
                 None => left_out.push(name),
                 Some(word) => {
@@ -101,17 +107,6 @@ fn fill_in(event: &mut Event, words: &mut Words) -> Result<(), Mistake> {
     }
     left_out.push(END);
     words.end(&one_of(&left_out))
-}
-
-fn all_operations(words: &mut Words) -> Result<Vec<Operation>, Mistake> {
-    let mut operations = Vec::new();
-    for word in words {
-        if operations.len() == usize::from(u8::MAX) {
-            return Err(word.mistake(OPERATIONS));
-        }
-        operations.push(operation::parse(word)?);
-    }
-    Ok(operations)
 }
 
 fn kinds() -> String {
@@ -130,7 +125,7 @@ fn one_of(choices: &[&str]) -> String {
 #[cfg(test)]
 mod tests {
     use super::*;
-    use crate::operation::{NOWAIT, UNDO};
+    use crate::operation::{Operation, NOWAIT, UNDO};
 
     fn mistake(text: &str) -> String {
         events(text.as_bytes()).expect_err("a mistake").to_string()
@@ -144,7 +139,8 @@ mod tests {
             operate 1 set=0 0:-1 1:+3/undo 2:0/nowait,undo#\n\
             operate 255 set=-2147483648\n\
             set 2147483647 number=65535 value=-2147483648\n\
-            remove -1\nsignal 0\nexit 9\nquery 4 number=7";
+            remove -1\nsignal 0\nexit 9\nquery 4 number=7\n\
+            set-all -4 values=1,-2147483648,32768\nset-all 0 values=none\nread-all 5";
         let operation = |number, amount, flags| Operation { number, amount, flags };
         let operations =
             vec![operation(0, -1, 0), operation(1, 3, UNDO), operation(2, 0, NOWAIT | UNDO)];
@@ -158,19 +154,29 @@ mod tests {
             Event::Signal { process: 0 },
             Event::Exit { process: 9 },
             Event::Query { identifier: 4, number: 7 },
+            Event::SetAll { identifier: -4, values: vec![1, i32::MIN, 32_768] },
+            Event::SetAll { identifier: 0, values: vec![] },
+            Event::ReadAll { identifier: 5 },
         ];
         assert_eq!(events(text.as_bytes()).as_deref(), Ok(&wanted[..]));
     }
 
+    /// Texts, each with the place of its mistake, what was expected there and what was found.
+    fn have_mistakes(texts: &[(&str, &str, &str, &str)]) {
+        for (text, place, expected, found) in texts {
+            assert_eq!(mistake(text), format!("{place}: expected {expected}, found {found}"));
+        }
+    }
+
     #[test]
     fn mistakes_have_line_column_and_what_was_expected() {
-        let kinds = "create, operate, set, remove, signal, exit or query";
+        let kinds = "create, operate, set, remove, signal, exit, query, set-all or read-all";
         let amount = "an amount, -32768 to 32767";
         let masks = "read=, alter= or the end of the line";
         let number = format!("number= with {NUMBER}");
         let value = format!("value= with {VALUE}");
         let end = "the end of the line";
-        let cases = [
+        have_mistakes(&[
             ("\n\noperate 1 set=0 0:40000", "3:19", amount, "'40000'"),
             ("opreate 1", "1:1", kinds, "'opreate'"),
             ("  remove", "1:9", IDENTIFIER, end),
@@ -184,11 +190,25 @@ mod tests {
             ("create 256", "1:8", COUNT, "'256'"),
             ("create 1 alter=1 read=1", "1:18", END, "'read=1'"),
             ("create 1 all", "1:10", masks, "'all'"),
+            ("setall 0 values=1", "1:1", kinds, "'setall'"),
+            ("read-all", "1:9", IDENTIFIER, end),
+            ("read-all 0 number=1", "1:12", END, "'number=1'"),
             ("exit 1\n\u{1}", "2:1", kinds, "'\\u{1}'"),
-        ];
-        for (text, place, expected, found) in cases {
-            assert_eq!(mistake(text), format!("{place}: expected {expected}, found {found}"));
-        }
+        ]);
+    }
+
+    #[test]
+    fn mistakes_in_the_values_of_a_set() {
+        let named = format!("values= with {}", values::EXPECTED);
+        have_mistakes(&[
+            ("set-all 0", "1:10", &named, "the end of the line"),
+            ("set-all 0 1,0,5", "1:11", &named, "'1,0,5'"),
+            ("set-all values=1", "1:9", IDENTIFIER, "'values=1'"),
+            ("set-all 0 values=", "1:18", values::EXPECTED, "nothing"),
+            ("set-all 0 values=1,x", "1:20", values::EXPECTED, "'x'"),
+            ("set-all 0 values=1, 2", "1:20", values::EXPECTED, "nothing"),
+            ("set-all 0 values=1 2", "1:20", END, "'2'"),
+        ]);
     }
 
     #[test]
@@ -198,11 +218,16 @@ mod tests {
     }
 
     #[test]
-    fn as_many_operations_as_a_body_holds() {
-        let line = |operations| format!("operate 1 set=0{}", " 0:0".repeat(operations));
-        assert!(events(line(255).as_bytes()).is_ok());
-        let wanted = format!("1:1037: expected {OPERATIONS}, found '0:0'");
-        assert_eq!(mistake(&line(256)), wanted);
+    fn as_many_operations_and_values_as_a_body_holds() {
+        let operate = |operations| format!("operate 1 set=0{}", " 0:0".repeat(operations));
+        let set_all = |values: usize| format!("set-all 0 values=7{}", ",7".repeat(values - 1));
+        for line in [operate(255), set_all(255)] {
+            assert!(events(line.as_bytes()).is_ok());
+        }
+        let wanted = "1:1037: expected the end of the line after 255 operations, found '0:0'";
+        assert_eq!(mistake(&operate(256)), wanted);
+        let wanted = "1:528: expected the end of the line after 255 values, found '7'";
+        assert_eq!(mistake(&set_all(256)), wanted);
     }
 
     /// Of events with six bytes each 10,922 fit.

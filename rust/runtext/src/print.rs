@@ -3,6 +3,7 @@
 use crate::event::Event;
 use crate::field::Field;
 use crate::mask;
+use crate::values;
 
 /// A line for each event; `parse::events` reads the same events from it.
 pub fn text(events: &[Event]) -> String {
@@ -25,6 +26,7 @@ fn words(field: Field) -> Vec<String> {
         Field::Count(value) | Field::Process(value) => vec![value.to_string()],
         Field::Number(value) => vec![value.to_string()],
         Field::Identifier(value) | Field::Value(value) => vec![value.to_string()],
+        Field::Values(values) => vec![values::name(values)],
         Field::Mask(mask) => vec![mask::name(*mask)],
         Field::Operations(operations) => operations.iter().map(ToString::to_string).collect(),
     }

@@ -1,4 +1,4 @@
-//! Queries put in behind the events of a run. They change nothing, so their answers show what the
+//! Readings put in behind the events of a run. They change nothing, so their answers show what the
 //! host holds after each event.
 
 use std::collections::BTreeSet;
@@ -8,25 +8,21 @@ use crate::answer::Answer;
 use crate::event::Event;
 use crate::runfile::{self, FILE_MAX, HEAD};
 
-/// Semaphores in a set, at most; asked for one that isn't there, the program answers 22.
-const SEMAPHORES: u16 = 8;
-
-/// A query behind the event at this position.
+/// A reading of a set behind the event at this position.
 #[derive(Clone, Debug, PartialEq, Eq)]
 pub struct Question {
     pub behind: usize,
     pub identifier: i32,
-    pub number: u16,
 }
 
 impl Question {
     pub fn event(&self) -> Event {
-        Event::Query { identifier: self.identifier, number: self.number }
+        Event::ReadAll { identifier: self.identifier }
     }
 }
 
-/// A question for each semaphore of each set that is live after each event. The answers to create
-/// and remove tell which are.
+/// A question for each set that is live after each event. The answers to create and remove tell
+/// which are.
 pub fn all(events: &[Event], answers: &[Answer]) -> Vec<Question> {
     let mut live = BTreeSet::new();
     let mut questions = Vec::new();
@@ -40,10 +36,7 @@ pub fn all(events: &[Event], answers: &[Answer]) -> Vec<Question> {
             }
             _ => {}
         }
-        for &identifier in &live {
-            let numbers = 0..SEMAPHORES;
-            questions.extend(numbers.map(|number| Question { behind, identifier, number }));
-        }
+        questions.extend(live.iter().map(|&identifier| Question { behind, identifier }));
     }
     questions
 }
@@ -104,8 +97,8 @@ mod tests {
         let answers = [report(0, 0), report(0, 1), report(28, 0), report(22, 0), report(0, 0)];
         let asked = |behind| {
             let questions = all(&events, &answers).into_iter();
-            let firsts = questions.filter(move |one| one.behind == behind && one.number == 0);
-            firsts.map(|question| question.identifier).collect::<Vec<_>>()
+            let there = questions.filter(move |question| question.behind == behind);
+            there.map(|question| question.identifier).collect::<Vec<_>>()
         };
         assert_eq!(asked(0), [0]);
         assert_eq!(asked(1), [0, 1]);
@@ -132,6 +125,6 @@ mod tests {
             first = part.end;
         }
         let room = FILE_MAX - runfile::write(&events).len();
-        assert!(room < 11 && first < questions.len() && questions.len() - first <= 16);
+        assert!(room < 6 && first < questions.len() && questions.len() - first <= 2);
     }
 }

@@ -114,6 +114,37 @@ mod tests {
         assert_eq!(words(&[1, 0, 6, 0, 0, 0]), "bad 204: event 0: the body is empty");
     }
 
+    /// The file with one body.
+    fn alone(body: &[u8]) -> Vec<u8> {
+        [&[1, 0, 6, 0, body.len() as u8, 0], body].concat()
+    }
+
+    #[test]
+    fn the_length_goes_by_the_number() {
+        for (body, wanted) in [
+            (&[2, 1, 0, 0, 0, 0][..], 7),
+            (&[2, 1, 0, 0, 0, 0, 1, 0], 13),
+            (&[10, 0, 0, 0, 0], 6),
+            (&[10, 0, 0, 0, 0, 0, 0], 6),
+            (&[10, 0, 0, 0, 0, 2, 1, 0, 0, 0], 14),
+            (&[10, 0, 0, 0, 0, 255], 1_026),
+            (&[11, 0, 0, 0, 0, 0], 5),
+            (&[11, 0, 0, 0], 5),
+        ] {
+            let (kind, length) = (body[0], body.len());
+            let wanted = format!("a body of kind {kind} has {wanted} bytes here, not {length}");
+            assert_eq!(words(&alone(body)), format!("bad 204: event 0: {wanted}"));
+        }
+    }
+
+    #[test]
+    fn kinds_between_and_behind_are_unknown() {
+        for kind in [0, 8, 9, 12, 255] {
+            let wanted = format!("bad 203: event 0: there is no kind {kind}");
+            assert_eq!(words(&alone(&[kind, 0, 0, 0, 0])), wanted);
+        }
+    }
+
     /// 10 + 65,535 is 9 modulo 65,536 only.
     #[test]
     fn sums_are_in_full_width() {

@@ -89,19 +89,24 @@ impl<'a> Words<'a> {
         Some(Word { text, column: word.column + name.chars().count() })
     }
 
-    /// The next word, a number behind the name, which may be empty.
-    pub fn number<T: FromStr>(&mut self, name: &str, expected: &str) -> Result<T, Mistake> {
+    /// What stands behind the name, which may be empty, in the next word; that has to have it.
+    pub fn field(&mut self, name: &str, expected: &str) -> Result<Word<'a>, Mistake> {
         if name.is_empty() {
-            return self.word(expected)?.number(expected);
+            return self.word(expected);
         }
         match self.option(name) {
-            Some(value) => value.number(expected),
+            Some(word) => Ok(word),
             None => {
                 let expected = format!("{name} with {expected}");
                 let word = self.word(&expected)?;
                 Err(word.mistake(&expected))
             }
         }
+    }
+
+    /// The same, a number.
+    pub fn number<T: FromStr>(&mut self, name: &str, expected: &str) -> Result<T, Mistake> {
+        self.field(name, expected)?.number(expected)
     }
 
     /// No word may be left.
@@ -119,6 +124,22 @@ impl<'a> Iterator for Words<'a> {
         let length = self.rest.find(char::is_whitespace).unwrap_or(self.rest.len());
         Some(self.take(length)).filter(|word| !word.text.is_empty())
     }
+}
+
+/// What is read from each word; their number is one byte of a body.
+pub fn list<'a, T>(
+    words: impl IntoIterator<Item = Word<'a>>,
+    read: impl Fn(Word<'a>) -> Result<T, Mistake>,
+    things: &str,
+) -> Result<Vec<T>, Mistake> {
+    let mut list = Vec::new();
+    for word in words {
+        if list.len() == usize::from(u8::MAX) {
+            return Err(word.mistake(&format!("the end of the line after {} {things}", u8::MAX)));
+        }
+        list.push(read(word)?);
+    }
+    Ok(list)
 }
 
 #[cfg(test)]

@@ -1,6 +1,6 @@
 //! What there is to tell about one event.
 
-use crate::answer::{Answer, State, Waking};
+use crate::answer::{Answer, Reading, Semaphore, Waking};
 use crate::decided;
 use crate::event::Event;
 use crate::questions::Question;
@@ -8,19 +8,18 @@ use crate::rows::{row, wrapped};
 use crate::sleepers::Sleepers;
 use crate::words;
 
-/// A semaphore of a live set, as the program shows it after an event.
-struct Semaphore {
+/// A live set, as the program shows it after an event.
+struct Set {
     identifier: i32,
-    number: u16,
-    state: State,
+    semaphores: Vec<Semaphore>,
 }
 
 pub struct Scene {
     pub event: Event,
     pub line: String,
     pub answer: Answer,
-    semaphores: Vec<Semaphore>,
-    /// There was no room for all the queries.
+    sets: Vec<Set>,
+    /// There was no room for all the questions.
     pub cut: bool,
 }
 
@@ -29,21 +28,18 @@ impl Scene {
     pub fn read(event: Event, line: String) -> Result<Scene, String> {
         let answer = Answer::read(&event, &line)
             .ok_or_else(|| format!("the line of {event:?} can't be read: {line}"))?;
-        Ok(Scene { event, line, answer, semaphores: Vec::new(), cut: false })
+        Ok(Scene { event, line, answer, sets: Vec::new(), cut: false })
     }
 
-    /// Takes the answer to a question. A semaphore that isn't there is no part of the story.
+    /// Takes the answer to a question, which is about a live set and so can't be refused.
     pub fn note(&mut self, question: &Question, line: Option<&String>) -> Result<(), String> {
-        let answer = line.and_then(|line| Answer::read(&question.event(), line));
-        let state = match answer {
-            Some(Answer::State(state)) => state,
-            _ => return Err(format!("no answer to {:?}", question.event())),
-        };
-        if state.code == 0 {
-            let Question { identifier, number, .. } = *question;
-            self.semaphores.push(Semaphore { identifier, number, state });
+        match line.and_then(|line| Answer::read(&question.event(), line)) {
+            Some(Answer::Reading(Reading { code: 0, semaphores })) => {
+                self.sets.push(Set { identifier: question.identifier, semaphores });
+                Ok(())
+            }
+            _ => Err(format!("no answer to {:?}", question.event())),
         }
-        Ok(())
     }
 
     /// The scene in words; the sleepers are those from before the event.
@@ -85,23 +81,19 @@ impl Scene {
 
     /// The value of a semaphore after the event, if the program was asked.
     fn value(&self, identifier: i32, number: u16) -> Option<i32> {
-        let same = |one: &&Semaphore| one.identifier == identifier && one.number == number;
-        self.semaphores.iter().find(same).map(|one| one.state.value)
+        let set = self.sets.iter().find(|set| set.identifier == identifier)?;
+        set.semaphores.get(usize::from(number)).map(|semaphore| semaphore.value)
     }
 
     /// The values of each live set.
     fn values(&self) -> String {
         let mut values = String::new();
-        let mut rest = &self.semaphores[..];
-        while let Some(first) = rest.first() {
-            let of_set = |other: &&Semaphore| other.identifier == first.identifier;
-            let (set, behind) = rest.split_at(rest.iter().take_while(of_set).count());
-            let numbers: Vec<String> = set.iter().map(|one| one.state.value.to_string()).collect();
-            values += &row("values", &format!("set {}: {}", first.identifier, numbers.join(" ")));
-            rest = behind;
+        for Set { identifier, semaphores } in &self.sets {
+            let numbers: Vec<String> = semaphores.iter().map(|one| one.value.to_string()).collect();
+            values += &row("values", &format!("set {identifier}: {}", numbers.join(" ")));
         }
         if self.cut {
-            values += &row("values", "not all shown: the run file has no room for more queries");
+            values += &row("values", "not all shown: the run file has no room for more readings");
         } else if values.is_empty() {
             values += &row("values", "no live set");
         }
@@ -110,12 +102,17 @@ impl Scene {
 
     /// Who waits, where somebody does.
     fn waits(&self) -> String {
-        let waits = |one: &&Semaphore| one.state.for_increase + one.state.for_zero != 0;
-        let line = |one: &Semaphore| {
-            let place = format!("set {}, semaphore {}", one.identifier, one.number);
-            row("waits", &format!("{place}: {}", words::waiting(&one.state)))
-        };
-        self.semaphores.iter().filter(waits).map(line).collect()
+        let mut rows = String::new();
+        for Set { identifier, semaphores } in &self.sets {
+            for (number, semaphore) in semaphores.iter().enumerate() {
+                if semaphore.waits.any() {
+                    let waiting = words::waiting(semaphore.waits);
+                    let place = format!("set {identifier}, semaphore {number}");
+                    rows += &row("waits", &format!("{place}: {waiting}"));
+                }
+            }
+        }
+        rows
     }
 }
 
@@ -124,14 +121,16 @@ mod tests {
     use super::*;
     use crate::parse;
 
-    /// An event as in a text, its line without the position, and the values of set 0 after it.
+    /// An event as in a text, its line without the position, and the values of set 0 after it, if
+    /// there was room for the question.
     fn scene(text: &str, line: &str, values: &[i32]) -> Scene {
         let event = parse::events(text.as_bytes()).expect("an event").remove(0);
         let mut scene = Scene::read(event, line.to_string()).expect("a line");
-        for (number, value) in values.iter().enumerate() {
-            let question = Question { behind: 0, identifier: 0, number: number as u16 };
-            let line = format!("0 {value} 0 0 0");
-            scene.note(&question, Some(&line)).expect("an answer");
+        scene.cut = values.is_empty();
+        if !scene.cut {
+            let shown: String = values.iter().map(|value| format!(" {value} 0 0")).collect();
+            let question = Question { behind: 0, identifier: 0 };
+            scene.note(&question, Some(&format!("0{shown}"))).expect("an answer");
         }
         scene
     }
@@ -161,8 +160,7 @@ mod tests {
 
     #[test]
     fn without_the_values_it_says_where() {
-        let mut asleep = scene("operate 1 set=0 0:+1 1:-1", "-1@1 0 0", &[0]);
-        asleep.cut = true;
+        let asleep = scene("operate 1 set=0 0:+1 1:-1", "-1@1 0 0", &[]);
         assert_eq!(rows(&[asleep], "answer"), "asleep (-1) at operation 1");
     }
 
@@ -182,9 +180,24 @@ mod tests {
             process 4: done (0)";
         assert_eq!(rows(&scenes, "wakes"), wanted);
         scenes.pop();
-        scenes.push(scene("set 0 number=0 value=2", line, &[0]));
+        scenes.push(scene("set 0 number=0 value=2", line, &[]));
         let wanted = "process 3: ERANGE (34) at operation 1, a value or";
         assert!(rows(&scenes, "wakes").contains(wanted));
+    }
+
+    /// All values are set before the first look, which is told with them.
+    #[test]
+    fn a_setting_shows_who_woke_and_what_it_left() {
+        let scenes = [
+            scene("operate 2 set=0 0:-1 1:+3", "-1@0 0 0", &[0, 0]),
+            scene("operate 3 set=0 0:-2", "-1@0 0 0", &[0, 0]),
+            scene("set-all 0 values=2,32765", "0 0 2 2=34@1 3=0", &[0, 32_765]),
+        ];
+        let wanted = "process 2: ERANGE (34) at operation 1: \
+            semaphore 1 has value 32765, plus 3 is above 32767\nprocess 3: done (0)";
+        assert_eq!(rows(&scenes, "wakes"), wanted);
+        assert_eq!(rows(&scenes, "answer"), "done (0), 2 looks");
+        assert_eq!(rows(&scenes, "values"), "set 0: 0 32765");
     }
 
     /// A sleeper whose call is not known, since the program has not told of it.

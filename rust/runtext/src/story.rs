@@ -43,7 +43,7 @@ fn scenes(events: Vec<Event>, lines: Vec<String>) -> Result<Vec<Scene>, String> 
     events.into_iter().zip(lines).map(|(event, line)| Scene::read(event, line)).collect()
 }
 
-/// Asks the program for every semaphore behind every event, in as many runs as that takes.
+/// Asks the program for every live set behind every event, in as many runs as that takes.
 fn ask(program: &Program, scenes: &mut [Scene]) -> Result<(), String> {
     let events: Vec<Event> = scenes.iter().map(|scene| scene.event.clone()).collect();
     let answers: Vec<Answer> = scenes.iter().map(|scene| scene.answer.clone()).collect();
@@ -54,7 +54,7 @@ fn ask(program: &Program, scenes: &mut [Scene]) -> Result<(), String> {
         let part = &questions[part];
         let extended = questions::extended(&events, part);
         match program.replay(&runfile::write(&extended))? {
-            Replay::Refused(code) => return Err(format!("bad {code} for a run with queries")),
+            Replay::Refused(code) => return Err(format!("bad {code} for a run with readings")),
             Replay::Lines(lines) => note(scenes, part, &lines)?,
         }
     }
@@ -73,7 +73,7 @@ fn note(scenes: &mut [Scene], questions: &[Question], lines: &[String]) -> Resul
             break;
         }
         if lines.next() != Some(&scene.line) {
-            return Err(format!("event {position} has another answer where queries are put in"));
+            return Err(format!("event {position} has another answer where readings are put in"));
         }
         while let Some(question) = questions.next_if(|question| question.behind == position) {
             scene.note(question, lines.next())?;
@@ -96,7 +96,7 @@ mod tests {
             Event::Query { identifier: 0, number: 0 },
         ];
         let mut scenes = scenes(events, vec!["0 0 0".to_string(), "0 0 0 0 0".to_string()])?;
-        let questions = [Question { behind: 0, identifier: 0, number: 0 }];
+        let questions = [Question { behind: 0, identifier: 0 }];
         let lines: Vec<String> = lines.iter().map(|line| line.to_string()).collect();
         note(&mut scenes, &questions, &lines)?;
         Ok(scenes)
@@ -104,7 +104,7 @@ mod tests {
 
     #[test]
     fn answers_to_questions_are_kept() {
-        let scenes = noted(&["0 0 0", "0 7 2 1 0"]).expect("the same answers");
+        let scenes = noted(&["0 0 0", "0 7 1 0"]).expect("the same answers");
         let told = |position: usize| scenes[position].tell(position, &Sleepers::default());
         let wanted =
             "  values  set 0: 7\n  waits   set 0, semaphore 0: 1 for increase, 0 for zero\n";
@@ -115,9 +115,10 @@ mod tests {
     /// The program may not answer the events of the run otherwise because of the questions.
     #[test]
     fn other_answers_are_noticed() {
-        assert!(noted(&["0 1 0", "0 7 2 1 0"]).is_err());
+        assert!(noted(&["0 1 0", "0 7 1 0"]).is_err());
         assert!(noted(&["0 0 0"]).is_err());
         assert!(noted(&["0 0 0", "0 0 0"]).is_err());
-        assert!(noted(&["0 0 0", "0 7 2 1 0", "0 0 0 0 0"]).is_err());
+        assert!(noted(&["0 0 0", "22"]).is_err());
+        assert!(noted(&["0 0 0", "0 7 1 0", "0 0 0 0 0"]).is_err());
     }
 }

@@ -1,6 +1,6 @@
 //! Answers in words.
 
-use crate::answer::{Answer, State, Waking};
+use crate::answer::{Answer, Semaphore, Waits, Waking};
 use crate::codes::{self, OUT_OF_RANGE};
 use crate::count::counted;
 use crate::event::Event;
@@ -28,16 +28,29 @@ pub fn answer(event: &Event, answer: &Answer, why: Option<String>) -> String {
         }
         Answer::State(state) if state.code == 0 => {
             words += &format!(", value {}, last process {}", state.value, state.last);
-            words += &format!(", waiting {}", waiting(state));
+            words += &format!(", waiting {}", waiting(state.waits));
         }
         Answer::State(_) => {}
+        Answer::Reading(reading) => words += &read(&reading.semaphores),
     }
     words
 }
 
 /// How many wait at a semaphore.
-pub fn waiting(state: &State) -> String {
-    format!("{} for increase, {} for zero", state.for_increase, state.for_zero)
+pub fn waiting(waits: Waits) -> String {
+    format!("{} for increase, {} for zero", waits.for_increase, waits.for_zero)
+}
+
+/// The semaphores of a set, with who waits where somebody does.
+fn read(semaphores: &[Semaphore]) -> String {
+    let mut words = String::new();
+    for (number, semaphore) in semaphores.iter().enumerate() {
+        words += &format!("; semaphore {number}: value {}", semaphore.value);
+        if semaphore.waits.any() {
+            words += &format!(", waiting {}", waiting(semaphore.waits));
+        }
+    }
+    words
 }
 
 /// The waking, with why the operation that it names decided, where that is known.
@@ -90,6 +103,36 @@ mod tests {
         let set_value = Event::SetValue { identifier: 0, number: 0, value: 40_000 };
         let wanted = "refused: ERANGE (34), the value isn't 0 to 32767";
         assert_eq!(told(&set_value, 34, None, ""), wanted);
+    }
+
+    #[test]
+    fn settings_that_are_done_or_refused() {
+        let set_all = Event::SetAll { identifier: 0, values: vec![1, 40_000] };
+        assert_eq!(told(&set_all, 0, None, ""), "done (0), 0 looks");
+        let wanted = "refused: ERANGE (34), a value isn't 0 to 32767";
+        assert_eq!(told(&set_all, 34, None, ""), wanted);
+        let wanted = "refused: EINVAL (22), \
+            no live set has this identifier, or it has another number of semaphores";
+        assert_eq!(told(&set_all, 22, None, ""), wanted);
+    }
+
+    /// Who waits is told only where somebody does.
+    #[test]
+    fn readings_semaphore_by_semaphore() {
+        let read_all = Event::ReadAll { identifier: 4 };
+        for (line, wanted) in [
+            ("0 7 0 0", "done (0); semaphore 0: value 7"),
+            (
+                "0 1 0 2 0 3 0 32767 0 0",
+                "done (0); semaphore 0: value 1, waiting 0 for increase, 2 for zero; \
+                semaphore 1: value 0, waiting 3 for increase, 0 for zero; \
+                semaphore 2: value 32767",
+            ),
+            ("22", "refused: EINVAL (22), no live set has this identifier"),
+        ] {
+            let reading = Answer::read(&read_all, line).expect("a line");
+            assert_eq!(answer(&read_all, &reading, None), wanted);
+        }
     }
 
     #[test]

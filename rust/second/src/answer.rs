@@ -1,6 +1,7 @@
 //! What an event returns.
 
 use crate::errno::Errno;
+use crate::judge::SEMAPHORES;
 use crate::position::Position;
 use crate::process::{Process, PROCESSES};
 
@@ -12,9 +13,11 @@ pub const ASLEEP: i32 = -1;
 pub enum Answer {
     Event(Report),
     Query(State),
+    Reading(Reading),
 }
 
-/// The answer to every event but a query. The default is "done", with nothing else to say.
+/// The answer to every event but a query and a reading. The default is "done", with nothing else to
+/// say.
 #[derive(Clone, Copy, Debug, Default)]
 pub struct Report {
     pub code: i32,
@@ -33,6 +36,15 @@ pub struct State {
     pub last: u8,
     pub for_increase: u8,
     pub for_zero: u8,
+}
+
+/// The answer to a reading: the semaphores of the set in order, each as a query would show it. A
+/// refused one has none.
+#[derive(Clone, Copy, Debug, Default)]
+pub struct Reading {
+    pub code: i32,
+    list: [State; SEMAPHORES],
+    length: usize,
 }
 
 /// What a whole set shows: each of its semaphores as a query would, and how many arrays were judged
@@ -64,6 +76,7 @@ impl Answer {
         match self {
             Answer::Event(report) => report.code,
             Answer::Query(state) => state.code,
+            Answer::Reading(reading) => reading.code,
         }
     }
 }
@@ -82,10 +95,33 @@ impl From<Result<State, Errno>> for Answer {
     }
 }
 
+impl From<Result<Reading, Errno>> for Answer {
+    fn from(result: Result<Reading, Errno>) -> Answer {
+        let refused = |errno: Errno| Reading { code: errno.number().into(), ..Reading::default() };
+        Answer::Reading(result.unwrap_or_else(refused))
+    }
+}
+
 impl Report {
     /// Nothing is done: the operation at this position decided.
     pub(crate) fn decided_at(position: Position, code: i32) -> Report {
         Report { code, position: Some(position), ..Report::default() }
+    }
+}
+
+impl Reading {
+    pub(crate) fn push(&mut self, state: State) {
+        self.list[self.length] = state;
+        self.length += 1;
+    }
+
+    /// The semaphore with this number.
+    pub(crate) fn at(&mut self, number: u16) -> &mut State {
+        &mut self.list[..self.length][usize::from(number)]
+    }
+
+    pub fn states(&self) -> &[State] {
+        &self.list[..self.length]
     }
 }
 

@@ -1,8 +1,9 @@
-//! The seven events and their bodies in a run file, read and written.
+//! The nine events and their bodies in a run file, read and written.
 
 use crate::bad::Bad;
 
-/// An event, with the fields as they stand in its body; an operate's operations are lent.
+/// An event, with the fields as they stand in its body; an operate's operations and a setting's
+/// values are lent.
 #[derive(Clone, Copy, Debug)]
 pub enum Event<'a> {
     Create { count: u8, read: u8, alter: u8 },
@@ -12,10 +13,13 @@ pub enum Event<'a> {
     Signal { process: u8 },
     Exit { process: u8 },
     Query { identifier: i32, number: u16 },
+    SetAll { identifier: i32, values: &'a [u8] },
+    ReadAll { identifier: i32 },
 }
 
-/// Bytes of one operation.
+/// Bytes of one operation, and of one value.
 pub const OPERATION: usize = 6;
+pub const VALUE: usize = 4;
 
 impl<'a> Event<'a> {
     /// Reads a body, or says what is wrong with it.
@@ -40,7 +44,13 @@ impl<'a> Event<'a> {
                 identifier: i32::from_le_bytes([a, b, c, d]),
                 number: u16::from_le_bytes([n, m]),
             },
-            [] | [1..=7, ..] => return Err(Bad::Body),
+            [10, a, b, c, d, number, ref values @ ..]
+                if values.len() == VALUE * usize::from(number) =>
+            {
+                Event::SetAll { identifier: i32::from_le_bytes([a, b, c, d]), values }
+            }
+            [11, a, b, c, d] => Event::ReadAll { identifier: i32::from_le_bytes([a, b, c, d]) },
+            [] | [1..=7 | 10..=11, ..] => return Err(Bad::Body),
             [_, ..] => return Err(Bad::Kind),
         })
     }
@@ -91,4 +101,17 @@ pub fn query(identifier: i32, number: u16) -> Body {
     let [a, b, c, d] = identifier.to_le_bytes();
     let [n, m] = number.to_le_bytes();
     vec![7, a, b, c, d, n, m]
+}
+
+/// The number of values is the low byte of their count.
+pub fn set_all(identifier: i32, values: &[i32]) -> Body {
+    let [a, b, c, d] = identifier.to_le_bytes();
+    let mut body = vec![10, a, b, c, d, values.len() as u8];
+    body.extend(values.iter().flat_map(|value| value.to_le_bytes()));
+    body
+}
+
+pub fn read_all(identifier: i32) -> Body {
+    let [a, b, c, d] = identifier.to_le_bytes();
+    vec![11, a, b, c, d]
 }

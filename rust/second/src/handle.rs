@@ -1,6 +1,6 @@
-//! The seven events of a host, and a whole set shown.
+//! The nine events of a host, and a whole set shown.
 
-use crate::answer::{Answer, Report, SetState, State, ASLEEP};
+use crate::answer::{Answer, Reading, Report, SetState, State, ASLEEP};
 use crate::errno::Errno;
 use crate::event::Event;
 use crate::host::{identifier, Host, SLOTS};
@@ -22,6 +22,8 @@ impl Host {
             Event::Signal { process } => self.signal(process).into(),
             Event::Exit { process } => self.exit(process).into(),
             Event::Query { identifier, number } => self.query(identifier, number).into(),
+            Event::SetAll { identifier, values } => self.set_all(identifier, values).into(),
+            Event::ReadAll { identifier } => self.read_all(identifier).into(),
         }
     }
 
@@ -134,25 +136,45 @@ impl Host {
         Ok(state)
     }
 
-    /// The whole set at once: each of its sleepers is judged, and waits at the semaphore where it
-    /// stops.
+    fn set_all(&mut self, identifier: i32, values: &[u8]) -> Result<Report, Errno> {
+        let slot = self.find(identifier)?;
+        self.sets[slot].set_all(values)?;
+        // Every semaphore is touched, even where its value is the same.
+        Ok(self.treated(slot, u8::MAX))
+    }
+
+    fn read_all(&self, identifier: i32) -> Result<Reading, Errno> {
+        let slot = self.find(identifier)?;
+        let (reading, _) = self.show(slot);
+        Ok(reading)
+    }
+
+    /// The whole set at once.
     pub fn query_set(&self, identifier: i32) -> Result<SetState, Errno> {
         let slot = self.find(identifier)?;
+        let (reading, judged) = self.show(slot);
+        Ok(SetState { states: reading.states().to_vec(), judged })
+    }
+
+    /// The semaphores of a set, and how many arrays were judged: each of its sleepers is, and waits
+    /// at the semaphore where it stops.
+    fn show(&self, slot: usize) -> (Reading, u32) {
         let set = &self.sets[slot];
-        let shown = set.values.iter().zip(&set.last).take(usize::from(set.count));
-        let state = |(&value, &last): (&i32, &u8)| State { value, last, ..State::default() };
-        let mut states: Vec<State> = shown.map(state).collect();
+        let mut reading = Reading::default();
+        for (&value, &last) in set.values.iter().zip(&set.last).take(usize::from(set.count)) {
+            reading.push(State { value, last, ..State::default() });
+        }
         let mut judged = 0;
         for (process, sleeper) in self.queue.of_set(slot) {
             judged += 1;
             if let Outcome::Sleep(stop) = set.outcome(process, &sleeper.array) {
                 let stopped = sleeper.array.at(stop);
-                let state = &mut states[usize::from(stopped.number)];
+                let state = reading.at(stopped.number);
                 let waiters =
                     if stopped.amount < 0 { &mut state.for_increase } else { &mut state.for_zero };
                 *waiters |= process.bit();
             }
         }
-        Ok(SetState { states, judged })
+        (reading, judged)
     }
 }

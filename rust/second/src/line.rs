@@ -1,6 +1,6 @@
 //! The lines that the program writes.
 
-use crate::answer::Answer;
+use crate::answer::{Answer, State};
 use crate::bad::Bad;
 use crate::position::Position;
 
@@ -38,11 +38,23 @@ pub fn push_answer(text: &mut Vec<u8>, position: usize, answer: &Answer) {
             push_field(text, state.code);
             push_field(text, state.value);
             push_field(text, state.last.into());
-            push_field(text, state.for_increase.count_ones() as i32);
-            push_field(text, state.for_zero.count_ones() as i32);
+            push_counts(text, state);
+        }
+        Answer::Reading(reading) => {
+            push_field(text, reading.code);
+            for shown in reading.states() {
+                push_field(text, shown.value);
+                push_counts(text, shown);
+            }
         }
     }
     text.push(b'\n');
+}
+
+/// How many wait for increase, and for zero.
+fn push_counts(text: &mut Vec<u8>, state: &State) {
+    push_field(text, state.for_increase.count_ones() as i32);
+    push_field(text, state.for_zero.count_ones() as i32);
 }
 
 fn push_field(text: &mut Vec<u8>, number: i32) {

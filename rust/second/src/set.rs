@@ -1,6 +1,7 @@
 //! One set of semaphores.
 
 use crate::errno::Errno;
+use crate::event::VALUE;
 use crate::judge::{Array, Outcome, Trial, SEMAPHORES, VALUE_MAX};
 use crate::process::{Process, PROCESSES};
 
@@ -54,6 +55,24 @@ impl Set {
         } else {
             Err(Errno::Eacces)
         }
+    }
+
+    /// Sets all values, which come as bytes, and forgets what any process holds. There has to be
+    /// one in range for each semaphore.
+    pub fn set_all(&mut self, bytes: &[u8]) -> Result<(), Errno> {
+        if bytes.len() != VALUE * usize::from(self.count) {
+            return Err(Errno::Einval);
+        }
+        let mut values = [0; SEMAPHORES];
+        for (value, four) in values.iter_mut().zip(bytes.chunks_exact(VALUE)) {
+            *value = i32::from_le_bytes([four[0], four[1], four[2], four[3]]);
+        }
+        if values.iter().any(|value| !(0..=VALUE_MAX).contains(value)) {
+            return Err(Errno::Erange);
+        }
+        self.values = values;
+        self.adjustments = Set::FREE.adjustments;
+        Ok(())
     }
 
     fn trial_for(&self, process: Process) -> Trial {

@@ -78,5 +78,9 @@ fn by_ordinary(host: &mut second::Host, handed: &Handed) -> i64 {
             i64::from(report.code) + i64::from(report.value) + looks
         }
         second::Answer::Query(state) => i64::from(state.code) + i64::from(state.value),
+        second::Answer::Reading(reading) => {
+            let values = reading.states().iter().map(|state| i64::from(state.value));
+            i64::from(reading.code) + values.sum::<i64>()
+        }
     }
 }

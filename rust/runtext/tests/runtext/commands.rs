@@ -15,6 +15,20 @@ fn the_whole_example_of_44_bytes() {
 }
 
 #[test]
+fn all_values_to_bytes_and_back() {
+    let text = "set-all -2 values=1,-1,32768\nset-all 0 values=none\nread-all 258\n";
+    let bodies = [
+        &[10, 254, 255, 255, 255, 3, 1, 0, 0, 0, 255, 255, 255, 255, 0, 128, 0, 0][..],
+        &[10, 0, 0, 0, 0, 0],
+        &[11, 2, 1, 0, 0],
+    ];
+    let table = [3, 0, 14, 0, 18, 0, 32, 0, 6, 0, 38, 0, 5, 0];
+    let file = [&table[..], &bodies.concat()].concat();
+    assert_eq!(good(&["assemble"], text.as_bytes()), file);
+    assert_eq!(good(&["disassemble"], &file), text.as_bytes());
+}
+
+#[test]
 fn no_events() {
     assert_eq!(good(&["assemble"], b""), [0, 0]);
     assert_eq!(good(&["disassemble"], &[0, 0]), b"");
@@ -23,9 +37,10 @@ fn no_events() {
 #[test]
 fn the_canonical_text() {
     let text =
-        b"  create 3   alter=8,1 #\n\noperate 4 set=0 07:5/nowait,0xF,undo\nquery 0 number=1";
+        b"  create 3   alter=8,1 #\n\noperate 4 set=0 07:5/nowait,0xF,undo\nquery 0 number=1\n\
+        set-all 00  values=01,-0,+5#";
     let wanted = "create 3 read=all alter=1,8\noperate 4 set=0 7:+5/undo,nowait,0x000f\n\
-        query 0 number=1\n";
+        query 0 number=1\nset-all 0 values=1,0,5\n";
     let file = good(&["assemble"], &text[..]);
     assert_eq!(good(&["disassemble"], &file), wanted.as_bytes());
     assert_eq!(good(&["assemble"], wanted.as_bytes()), file);
@@ -33,10 +48,19 @@ fn the_canonical_text() {
 
 #[test]
 fn a_mistake_in_a_text_is_2() {
-    let text = b"exit 1\nset 0 number=x value=1";
-    let wanted = "2:14: expected the number of a semaphore, 0 to 65535, found 'x'\n";
-    for command in ["assemble", "story"] {
-        assert_eq!(bad(&[command], text), (2, wanted.to_string()));
+    for (text, wanted) in [
+        (
+            "exit 1\nset 0 number=x value=1",
+            "2:14: expected the number of a semaphore, 0 to 65535, found 'x'\n",
+        ),
+        (
+            "exit 1\n\nset-all 0 values=1,,5",
+            "3:20: expected values -2147483648 to 2147483647 as in 1,0,5, or none, found nothing\n",
+        ),
+    ] {
+        for command in ["assemble", "story"] {
+            assert_eq!(bad(&[command], text.as_bytes()), (2, wanted.to_string()));
+        }
     }
 }
 

@@ -1,11 +1,12 @@
-//! There and back, on files of every kind that the comparer makes.
+//! There and back, on files of every kind that the comparer makes, and on those that are kept.
 
 use std::fs;
 
-use crate::{bad, built, good, run, runtext};
+use crate::{bad, built, good, repository, run, runtext};
 
 /// Kinds of good files, all of which `compare --help` lists.
-const KINDS: [&str; 7] = ["medley", "mixed", "extremes", "refusals", "queries", "random", "long"];
+const KINDS: [&str; 8] =
+    ["medley", "mixed", "extremes", "refusals", "queries", "random", "long", "whole"];
 /// Files of a seed, good and bad.
 const FILES: usize = 60;
 
@@ -34,24 +35,46 @@ fn full_files_of_each_kind() {
     }
 }
 
-/// A file is refused with the code that the second program gives it, or comes back.
+/// A file is refused with the code that its lines have, or comes back; is it refused?
+fn is_refused(name: &str, file: &[u8], lines: &[u8]) -> bool {
+    let first = String::from_utf8_lossy(lines).lines().next().unwrap_or_default().to_string();
+    let refused = first.starts_with("bad ");
+    if refused {
+        let (status, words) = bad(&["disassemble"], file);
+        assert_eq!(status, 1);
+        assert!(words.starts_with(&format!("{first}: ")), "file {name}: {words}");
+    } else {
+        comes_back(file);
+    }
+    refused
+}
+
 #[test]
 fn files_good_and_bad() {
     let mut refused = 0;
     for index in 0..FILES {
-        let file = generated(&["--file", &index.to_string(), "--seed", "11"]);
+        let name = index.to_string();
+        let file = generated(&["--file", &name, "--seed", "11"]);
         let lines = run(&built("second"), &[], &file).stdout;
-        let first = String::from_utf8_lossy(&lines).lines().next().unwrap_or_default().to_string();
-        if first.starts_with("bad ") {
-            let (status, words) = bad(&["disassemble"], &file);
-            assert_eq!(status, 1);
-            assert!(words.starts_with(&format!("{first}: ")), "file {index}: {words}");
-            refused += 1;
-        } else {
-            comes_back(&file);
-        }
+        refused += usize::from(is_refused(&name, &file, &lines));
     }
     assert!((5..=FILES - 20).contains(&refused), "{refused} of {FILES} are refused");
+}
+
+/// The files of the repository, with the lines that are stored beside them.
+#[test]
+fn kept_files() {
+    let (mut files, mut refused) = (0, 0);
+    for entry in fs::read_dir(repository().join("tests/files")).expect("the kept files") {
+        let path = entry.expect("a file").path();
+        if path.extension().map_or(false, |ending| ending == "run") {
+            let file = fs::read(&path).expect("a kept file");
+            let lines = fs::read(path.with_extension("expected")).expect("its lines");
+            files += 1;
+            refused += usize::from(is_refused(&path.to_string_lossy(), &file, &lines));
+        }
+    }
+    assert!(refused > 5 && files > refused + 5, "{refused} of {files} are refused");
 }
 
 #[test]

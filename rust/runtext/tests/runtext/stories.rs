@@ -108,6 +108,42 @@ event 5: process 5 on set 0: add 2 to semaphore 0; add 32766 to semaphore 0
     assert!(story.contains(wanted), "{story}");
 }
 
+/// A setting that wakes and one that is refused, and readings.
+#[test]
+fn all_values_at_once() {
+    let text = "create 2\noperate 1 set=0 0:-1 1:-1\noperate 2 set=0 1:0 0:-2\n\
+        set-all 0 values=1,2\nset-all 0 values=none\nread-all 0\nread-all 1\n";
+    let wanted = "
+event 3: set all of set 0 to 1, 2
+  line    3 0 0 2 1=0
+  answer  done (0), 2 looks
+  wakes   process 1: done (0)
+  values  set 0: 0 1
+  waits   set 0, semaphore 1: 0 for increase, 1 for zero
+
+event 4: set all of set 0 to no values
+  line    4 22 0 0
+  answer  refused: EINVAL (22), no live set has this identifier, or it has another number of
+          semaphores
+  values  set 0: 0 1
+  waits   set 0, semaphore 1: 0 for increase, 1 for zero
+
+event 5: read all of set 0
+  line    5 0 0 0 0 1 0 1
+  answer  done (0); semaphore 0: value 0; semaphore 1: value 1, waiting 0 for increase, 1 for zero
+  values  set 0: 0 1
+  waits   set 0, semaphore 1: 0 for increase, 1 for zero
+
+event 6: read all of set 1
+  line    6 22
+  answer  refused: EINVAL (22), no live set has this identifier
+  values  set 0: 0 1
+  waits   set 0, semaphore 1: 0 for increase, 1 for zero
+";
+    let story = story(&[], text.as_bytes());
+    assert!(story.ends_with(wanted), "{story}");
+}
+
 /// A full file takes many runs. Its lines are those of one replay, every query of the file answers
 /// with the value that the story shows, and each operation that decided is told with its value.
 #[test]
@@ -121,6 +157,15 @@ fn a_full_file() {
     assert!(queries.len() > 200 && queries.iter().all(|&agrees| agrees));
     let cut = story.matches("not all shown").count();
     assert!(cut <= 4, "{cut} events of a full file without all values");
+    let decided = told_with_reasons(&story);
+    assert!(decided > 200, "{decided} operations that decided");
+}
+
+#[test]
+fn a_full_file_of_settings_and_readings() {
+    let story = story(&["--run"], &generated(&["--kind", "whole", "--seed", "3"]));
+    let readings: Vec<bool> = story.split("\n\n").filter_map(reading_agrees).collect();
+    assert!(readings.len() > 200 && readings.iter().all(|&agrees| agrees));
     let decided = told_with_reasons(&story);
     assert!(decided > 200, "{decided} operations that decided");
 }
@@ -157,7 +202,22 @@ fn query_agrees(scene: &str) -> Option<bool> {
     let (number, rest) = rest.split_once(" of set ")?;
     let (identifier, rest) = rest.split_once('\n')?;
     let value = rest.split_once("done (0), value ")?.1.split(',').next()?;
+    Some(values_of(rest, identifier)?.get(number.parse::<usize>().ok()?) == Some(&value))
+}
+
+/// Of a reading that is done: does it tell the values that the story shows of its set?
+fn reading_agrees(scene: &str) -> Option<bool> {
+    let (identifier, rest) = scene.split_once(": read all of set ")?.1.split_once('\n')?;
+    let answer = rest.split_once("done (0); ")?.1.split("\n  values ").next()?;
+    let words: Vec<&str> = answer.split_whitespace().collect();
+    let values = words.windows(2).filter(|pair| pair[0] == "value");
+    let values: Vec<&str> = values.map(|pair| pair[1].trim_end_matches([',', ';'])).collect();
+    Some(values_of(rest, identifier)? == values)
+}
+
+/// The values of a set that a scene shows.
+fn values_of<'a>(scene: &'a str, identifier: &str) -> Option<Vec<&'a str>> {
     let set = format!("  values  set {identifier}: ");
-    let values = rest.lines().find_map(|row| row.strip_prefix(&set))?;
-    Some(values.split(' ').nth(number.parse().ok()?) == Some(value))
+    let values = scene.lines().find_map(|row| row.strip_prefix(&set))?;
+    Some(values.split(' ').collect())
 }

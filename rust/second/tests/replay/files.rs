@@ -1,6 +1,6 @@
 //! Good and bad run files, byte by byte.
 
-use second::event::{exit, operate, query, remove, set_value, signal};
+use second::event::{exit, operate, query, read_all, remove, set_all, set_value, signal};
 use second::{run_file, Rule};
 
 use crate::{create, text};
@@ -57,7 +57,7 @@ fn offsets_and_end() {
 #[test]
 fn bodies() {
     assert_eq!(line(&run_file(&[vec![]])), "bad 204\n");
-    for kind in (0..=0).chain(8..=255) {
+    for kind in [0, 8, 9].into_iter().chain(12..=255) {
         assert_eq!(line(&run_file(&[vec![kind, 1]])), "bad 203\n", "kind {kind}");
     }
     let good = [
@@ -68,11 +68,48 @@ fn bodies() {
         signal(1),
         exit(1),
         query(0, 0),
+        set_all(0, &[0, 0]),
+        read_all(0),
     ];
     for body in good {
         assert_eq!(line(&run_file(&[body[..body.len() - 1].to_vec()])), "bad 204\n");
         assert_eq!(line(&run_file(&[[&body[..], &[0]].concat()])), "bad 204\n");
     }
+}
+
+/// With its kind and identifier alone, or with values that are not as many as it says.
+#[test]
+fn lengths_of_a_setting() {
+    let good = set_all(0, &[1, 2]);
+    for length in (1..14).chain(15..20) {
+        let mut body = good.clone();
+        body.resize(length, 0);
+        assert_eq!(line(&run_file(&[body])), "bad 204\n", "{length} bytes");
+    }
+    for number in [0, 1, 3, 66, 130, 255] {
+        let mut body = good.clone();
+        body[5] = number;
+        assert_eq!(line(&run_file(&[body])), "bad 204\n", "{number} values");
+    }
+}
+
+/// Values are little-endian and have a sign.
+#[test]
+fn bytes_of_a_setting_and_a_reading() {
+    let bodies = [
+        vec![1, 2, 0xFF, 0xFF],
+        vec![10, 0, 0, 0, 0, 2, 0x02, 0x01, 0, 0, 0xFF, 0x7F, 0, 0],
+        vec![10, 0, 0, 0, 0, 2, 0, 0, 0, 0, 0x00, 0x80, 0, 0],
+        vec![10, 0, 0, 0, 0, 2, 0, 0, 0, 0, 0xFF, 0xFF, 0xFF, 0xFF],
+        vec![10, 0, 0, 0, 0, 2, 0, 0, 0, 0, 0x00, 0x00, 0, 1],
+        vec![11, 0, 0, 0, 0],
+        vec![11, 1, 0, 0, 0],
+    ];
+    let lines = "0 0 0 0\n1 0 0 0\n2 34 0 0\n3 34 0 0\n4 34 0 0\n5 0 258 0 0 32767 0 0\n6 22\n";
+    assert_eq!(line(&run_file(&bodies)), format!("events 7\n{lines}"));
+    assert_eq!(bodies[1], set_all(0, &[258, 32_767]));
+    assert_eq!(bodies[3], set_all(0, &[0, -1]));
+    assert_eq!(bodies[6], read_all(1));
 }
 
 /// The first bad event decides, and offsets come before all bodies.
@@ -91,5 +128,14 @@ fn any_number_of_operations_with_the_matching_length_is_a_good_file() {
         let code = if number <= 32 { 22 } else { 7 };
         let file = run_file(&[operate(1, 0, &vec![(0, 0, 0); number])]);
         assert_eq!(line(&file), format!("events 1\n0 {code} 0 0\n"));
+    }
+}
+
+#[test]
+fn any_number_of_values_with_the_matching_length_is_a_good_file() {
+    for number in 0..=255 {
+        let code = if number == 8 { 0 } else { 22 };
+        let file = run_file(&[create(), set_all(0, &vec![0; number])]);
+        assert_eq!(line(&file), format!("events 2\n0 0 0 0\n1 {code} 0 0\n"));
     }
 }

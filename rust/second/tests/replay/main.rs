@@ -5,9 +5,10 @@ mod positions;
 mod program;
 mod rules;
 mod situations;
+mod whole;
 
-use second::event::{self, Body};
-use second::{replay, run_file, Rule};
+use second::event::{self, operate, set_value, Body};
+use second::{replay, run_file, Rule, UNDO};
 
 /// A set of eight semaphores, all processes permitted.
 fn create() -> Body {
@@ -40,4 +41,15 @@ fn check(run: &[(Body, &str)]) {
 /// The same, once a set is created.
 fn check_on_a_set(run: &[(Body, &str)]) {
     check(&[&[(create(), "0 0 0")], run].concat());
+}
+
+/// Semaphore 0 is at 0, and process 1 sleeps on an array that could not be undone if it did not
+/// hold what it took there.
+fn asleep_by_an_adjustment() -> [(Body, &'static str); 3] {
+    let up = (0, 20_000, UNDO);
+    [
+        (set_value(0, 0, 32_767), "0 0 0"),
+        (operate(1, 0, &[(0, -32_767, UNDO)]), "0 0 0"),
+        (operate(1, 0, &[up, (0, -20_000, 0), up, (1, -1, 0)]), "-1@3 0 0"),
+    ]
 }

@@ -3,7 +3,7 @@
 use second::event::{self, exit, operate, query, remove, set_value, signal};
 use second::{Event, Host, Rule, State, NOWAIT, UNDO};
 
-use crate::{check, check_on_a_set, create};
+use crate::{asleep_by_an_adjustment, check, check_on_a_set, create};
 
 #[test]
 fn checks_go_in_their_order() {
@@ -63,13 +63,9 @@ fn touched_means_another_value_at_the_end() {
 /// Clearing the adjustment makes the same array too large to be undone.
 #[test]
 fn set_value_to_the_same_number_can_wake() {
-    let up = (0, 20_000, UNDO);
-    check_on_a_set(&[
-        (set_value(0, 0, 32_767), "0 0 0"),
-        (operate(1, 0, &[(0, -32_767, UNDO)]), "0 0 0"),
-        (operate(1, 0, &[up, (0, -20_000, 0), up, (1, -1, 0)]), "-1@3 0 0"),
-        (set_value(0, 0, 0), "0 0 1 1=34@2"),
-    ]);
+    let mut run = asleep_by_an_adjustment().to_vec();
+    run.push((set_value(0, 0, 0), "0 0 1 1=34@2"));
+    check_on_a_set(&run);
 }
 
 /// A refused array doesn't, nor one that ends with 34, 11 or 4, a set value or an exit.

@@ -33,6 +33,7 @@ pub fn run(host: &mut Host, event: &Event, operations: &[Operation]) -> Told {
         Event::Signal { process } => host.signal(process).map(Told::Done),
         Event::Exit { process } => host.exit(process).map(Told::Done),
         Event::Query { identifier, number } => host.query(identifier, number).map(Told::Seen),
+        Event::SetAll { .. } | Event::ReadAll { .. } => unimplemented!("all values at once"),
     };
     told.unwrap_or_else(Told::Refused)
 }
