@@ -1,9 +1,9 @@
 /* Vairolent: a service for System V semaphore sets whose every answer is proved.
  *
- * It is a library, not a kernel. The caller keeps a host and hands it to each of seven events (create, operate, set
- * value, remove, signal, exit, query); an event tells who sleeps, who is woken, with which code and in which order, and
- * which operation stopped whom, and the caller acts on it. No function waits, allocates, calls the system or keeps
- * anything of its own. Two threads that share a host take turns by a lock of their own.
+ * It is a library, not a kernel. The caller keeps a host and hands it to each of nine events (create, operate, set
+ * value, set all, remove, signal, exit, query, read all); an event tells who sleeps, who is woken, with which code and
+ * in which order, and which operation stopped whom, and the caller acts on it. No function waits, allocates, calls the
+ * system or keeps anything of its own. Two threads that share a host take turns by a lock of their own.
  *
  * Link with libvairolent.a. An answer's code is 0 (done), VAIROLENT_ASLEEP, or a number that <errno.h> names. */
 #ifndef VAIROLENT_H
@@ -37,7 +37,7 @@ enum {
 /* Which operation of an array decided, by its position from 0, if one did. There is one where judging did not let the
  * array through: with the VAIROLENT_ASLEEP, EAGAIN or ERANGE of an operate, and the EAGAIN or ERANGE of a waking. There
  * is none where the array is done, where a check before judging refuses it, in EIDRM and EINTR, and in any other event,
- * the ERANGE of a set value included. */
+ * the ERANGE of a set value or of a set all included. */
 struct vairolent_position {
     bool there;
     uint8_t at; /* 0 to 31; 0 if there is none */
@@ -56,9 +56,8 @@ struct vairolent_waking {
 /* All that the service holds: the sets and their sleepers in a row of bytes, the undo adjustments, and the wakings
  * of the last event, with zeros behind them.
  *
- * The premise of every event, and of showing a whole set: the host handed in is as vairolent_fresh or the last event
- * left it, byte for byte; nothing checks that when the program runs, and of any other host nothing is promised. A copy
- * of a host is a host. */
+ * The premise of every event: the host handed in is as vairolent_fresh or the last event left it, byte for byte;
+ * nothing checks that when the program runs, and of any other host nothing is promised. A copy of a host is a host. */
 struct vairolent_host {
     uint8_t row[VAIROLENT_ROW_BYTES];
     int16_t adjustments[VAIROLENT_ADJUSTMENTS];
@@ -79,7 +78,7 @@ struct vairolent_told {
 struct vairolent_queried {
     int32_t code;          /* 0, or why the query is refused; then all else is 0 */
     uint16_t value;        /* 0 to 32,767 */
-    uint8_t last;          /* the last process whose done array names it, 0 if none; set value and exit leave it */
+    uint8_t last;          /* the last process whose done array names it, 0 if none; settings and exits leave it */
     uint32_t increase;     /* how many sleepers wait for an increase */
     uint32_t zero;         /* how many wait for zero */
     uint8_t increase_mask; /* which processes wait for an increase: process p has bit p-1 */
@@ -87,9 +86,9 @@ struct vairolent_queried {
     uint32_t looks;        /* 0: a query wakes nobody */
 };
 
-/* What a whole set tells: at each number what a query of that semaphore tells; 0 from the set's count on. Each sleeper
- * of the set is judged once for it, which is no look, and waits at one semaphore alone: so the wait counts of a set add
- * up to the arrays that were judged. */
+/* What a read all tells, of the whole set: at each number what a query of that semaphore tells; 0 from the set's count
+ * on. Each sleeper of the set is judged once for it, which is no look, and waits at one semaphore alone: so the wait
+ * counts of a set add up to the arrays that were judged. */
 struct vairolent_queried_set {
     int32_t code;                                 /* 0, or why it is refused; then all else is 0 */
     uint8_t count;                                /* how many semaphores the set has */
@@ -122,9 +121,10 @@ struct vairolent_limits vairolent_limits(void);
 /* A fresh host: four free slots, every number and adjustment 0, no sleepers. */
 struct vairolent_host vairolent_fresh(void);
 
-/* The seven events, and a whole set shown. Each has a function of the archive, NAME_in, whose promise is proved; it
- * takes the parts of a host, which lie apart from each other and from the operations. NAME takes a whole host and hands
- * its parts on.
+/* The nine events; read all is vairolent_query_set. Each has a function of the archive, NAME_in, whose promise is
+ * proved; it takes the parts of a host, which lie apart from each other and from the operations or values. NAME takes a
+ * whole host and hands its parts on. Operations and values are the caller's: they are read while the call runs, and
+ * neither written nor kept.
  *
  * How sleepers are woken: those of the set whose arrays name a semaphore whose value changed or was set are judged
  * again, oldest first. One that no longer sleeps is woken, with 0 and its array applied (it is then the last process of
@@ -181,6 +181,25 @@ static inline struct vairolent_told vairolent_set_value(struct vairolent_host *h
     return vairolent_set_value_in(host->row, host->adjustments, host->wakings, identifier, number, value);
 }
 
+/* Sets the values of all semaphores of a set at once, from semaphore 0 on, forgets all undo adjustments of the set, and
+ * then wakes its sleepers, even if the values are the same. None is woken while only some values are set. The archive's
+ * function takes the bytes of the values, four for each, little-endian and signed, at any address: so they stand in a
+ * run file, and in an array of int32_t.
+ * Refused, the first that applies: EINVAL no such set, or not as many values as it has semaphores (bytes that are no
+ * whole values never are); ERANGE one of the values not 0 to 32,767. */
+struct vairolent_told vairolent_set_all_in(uint8_t *row, int16_t *adjustments, struct vairolent_waking *wakings,
+                                           int32_t identifier, const uint8_t *values, size_t bytes);
+static inline struct vairolent_told vairolent_set_all(struct vairolent_host *host, int32_t identifier,
+                                                      const int32_t *values, size_t count)
+{
+    /* As in vairolent_operate: every number over the limit is answered alike, and no values may be a null pointer. */
+    static const uint8_t none = 0;
+    const uint8_t *bytes = count == 0 ? &none : (const uint8_t *)values;
+    size_t counted = count <= VAIROLENT_SEMAPHORES ? count : VAIROLENT_SEMAPHORES + 1;
+    return vairolent_set_all_in(host->row, host->adjustments, host->wakings, identifier, bytes,
+                                counted * sizeof *values);
+}
+
 /* Removes a set and frees its slot. Its sleepers are woken with EIDRM, oldest first.
  * Refused: EINVAL no such set. */
 struct vairolent_told vairolent_remove_in(uint8_t *row, int16_t *adjustments, struct vairolent_waking *wakings,
@@ -219,8 +238,10 @@ static inline struct vairolent_queried vairolent_query(const struct vairolent_ho
     return vairolent_query_in(host->row, host->adjustments, identifier, number);
 }
 
-/* Shows a whole set: all its semaphores, by judging each of its sleepers once, where a query of each semaphore would
- * judge them again and again. It is no event: the host stays as it is.
+/* Reads all values of a set at once, and with them all else that queries show: all its semaphores, by judging each of
+ * its sleepers once, where a query of each semaphore would judge them again and again. The host stays as it is. A run
+ * file's kind 11 is this event; its line has the code, and then value, increase and zero of each semaphore below the
+ * count.
  * Refused: EINVAL no such set. */
 struct vairolent_queried_set vairolent_query_set_in(const uint8_t *row, const int16_t *adjustments,
                                                     int32_t identifier);

@@ -38,8 +38,10 @@ int main(void)
     if (told.code != 0)
         return EXIT_FAILURE;
     int set = (int)told.value;
-    vairolent_set_value(&host, set, PRICING, 1);
-    vairolent_set_value(&host, set, PREDICTIONS, 1);
+    /* Both at once, so that nobody is woken between them. */
+    int32_t start[SEMAPHORES] = {[PRICING] = 1, [PREDICTIONS] = 1};
+    if (vairolent_set_all(&host, set, start, SEMAPHORES).code != 0)
+        return EXIT_FAILURE;
 
     for (uint8_t process = 1; process <= 3; process++)
         operate(&host, process, set, PRICING, -1);

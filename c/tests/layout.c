@@ -4,23 +4,8 @@
  * argument points, so a call into memory filled twice, with different bytes, shows which bytes the archive writes.
  * Offsets show where answers have another number in every field, constants in what the events accept. */
 #include <errno.h>
-#include <stdio.h>
-#include <string.h>
-#include <sys/sem.h>
 
-#include "vairolent.h"
-
-static int passed, failed;
-
-static void want(const char *what, long long is, long long wanted)
-{
-    if (is == wanted) {
-        passed++;
-        return;
-    }
-    failed++;
-    printf("layout: %s is %lld, not %lld\n", what, is, wanted);
-}
+#include "wanted.h"
 
 /* The archive's functions as the convention has them. */
 extern void *raw_limits(void *result) __asm__("vairolent_limits");
@@ -30,8 +15,6 @@ extern void *raw_signal(void *result, uint8_t *, int16_t *, struct vairolent_wak
 extern void *raw_query(void *result, const uint8_t *, const int16_t *, int32_t, uint16_t)
     __asm__("vairolent_query_in");
 extern void *raw_query_set(void *result, const uint8_t *, const int16_t *, int32_t) __asm__("vairolent_query_set_in");
-
-static struct vairolent_host host;
 
 static void limits_into(void *result) { raw_limits(result); }
 static void fresh_into(void *result) { raw_fresh(result); }
@@ -47,7 +30,6 @@ struct field {
 };
 
 #define FIELD(type, name) {offsetof(struct vairolent_##type, name), sizeof((struct vairolent_##type *)0)->name}
-#define COUNTED(array) array, sizeof array / sizeof array[0]
 
 /* The bytes of a struct that are of no field, between its fields and behind the last; a call may write them or not. */
 struct padding {
@@ -129,12 +111,6 @@ static void limits(void)
     want("the bytes of the wakings", sizeof host.wakings, 4 * (long long)built.processes);
 }
 
-static struct vairolent_told operate(uint8_t process, int32_t set, unsigned short number, short amount, short flags)
-{
-    struct sembuf one = {.sem_num = number, .sem_op = amount, .sem_flg = flags};
-    return vairolent_operate(&host, process, set, &one, 1);
-}
-
 /* A fresh host with slot 0 used once before, so that its next set has the identifier 4. */
 static struct vairolent_told again(uint8_t count)
 {
@@ -167,42 +143,6 @@ static void offsets_told(void)
     want("the place behind them", host.wakings[2].process, 0);
 }
 
-/* An operation that decided: its position, or none. */
-enum { NONE = -1 };
-
-/* Is there this position? The archive writes a bool as 0 or 1, and a position of 0 where there is none. */
-static void position_is(const char *what, struct vairolent_position position, int wanted)
-{
-    unsigned char there;
-    memcpy(&there, &position.there, 1);
-    want(what, there, wanted != NONE);
-    want(what, position.at, wanted == NONE ? 0 : wanted);
-}
-
-static void told_is(const char *what, struct vairolent_told told, int32_t code, int position)
-{
-    want(what, told.code, code);
-    position_is(what, told.position, position);
-}
-
-static void waking_is(const char *what, size_t place, uint8_t process, uint8_t code, int position)
-{
-    want(what, host.wakings[place].process, process);
-    want(what, host.wakings[place].code, code);
-    position_is(what, host.wakings[place].position, position);
-}
-
-/* Are the first bytes of the wakings these, and all others 0? */
-static void wakings_are(const char *what, const uint8_t *wanted, size_t count)
-{
-    uint8_t bytes[sizeof host.wakings], all[sizeof host.wakings] = {0};
-    memcpy(bytes, host.wakings, sizeof bytes);
-    memcpy(all, wanted, count);
-    want(what, memcmp(bytes, all, sizeof all), 0);
-}
-
-#define OPERATION(number, amount, flags) {.sem_num = number, .sem_op = amount, .sem_flg = flags}
-
 /* Where judging the caller's own array decided. */
 static void positions_of_calls(void)
 {
@@ -229,6 +169,7 @@ static void positions_of_calls(void)
 static void no_positions(void)
 {
     static const struct sembuf many[VAIROLENT_OPERATIONS + 1] = {OPERATION(0, 1, 0)};
+    static const int32_t zeros[2], below = -1;
     host = vairolent_fresh();
     told_is("a create", vairolent_create(&host, 1, VAIROLENT_ALL, 1), 0, NONE);
     told_is("a create that is refused", vairolent_create(&host, 0, 0, 0), EINVAL, NONE);
@@ -242,6 +183,9 @@ static void no_positions(void)
     told_is("not permitted", operate(2, 0, 0, -1, 0), EACCES, NONE);
     told_is("an array that is done", operate(2, 0, 0, 0, 0), 0, NONE);
     told_is("a value out of range", vairolent_set_value(&host, 0, 0, -1), ERANGE, NONE);
+    told_is("one of all values out of range", vairolent_set_all(&host, 0, &below, 1), ERANGE, NONE);
+    told_is("two values for one semaphore", vairolent_set_all(&host, 0, zeros, 2), EINVAL, NONE);
+    told_is("all values", vairolent_set_all(&host, 0, zeros, 1), 0, NONE);
     told_is("a signal", vairolent_signal(&host, 1), 0, NONE);
     waking_is("the interrupted", 0, 1, EINTR, NONE);
     told_is("an exit", vairolent_exit(&host, 1), 0, NONE);
@@ -411,6 +355,7 @@ static void arguments(void)
 static void widths(void)
 {
     enum { GENERATIONS = 16384 };
+    static const int32_t all = 257;
     host = vairolent_fresh();
     for (int32_t i = 0; i < GENERATIONS; i++) {
         vairolent_create(&host, 1, VAIROLENT_ALL, VAIROLENT_ALL);
@@ -428,6 +373,9 @@ static void widths(void)
     want("no value of 65,536", vairolent_set_value(&host, set, 0, 65536).code, ERANGE);
     want("a value set, by it", vairolent_set_value(&host, set, 0, 256).code, 0);
     want("the value that was set", vairolent_query(&host, set, 0).value, 256);
+    want("all values set, by it", vairolent_set_all(&host, set, &all, 1).code, 0);
+    want("all values that were set", vairolent_query_set(&host, set).values[0], all);
+    want("no set 0 to set all values of", vairolent_set_all(&host, 0, &all, 1).code, EINVAL);
     want("a removal by it", vairolent_remove(&host, set).code, 0);
 }
 
@@ -462,6 +410,5 @@ int main(void)
     arguments();
     widths();
     codes();
-    printf("%d passed, %d failed\n", passed, failed);
-    return failed != 0;
+    return finished();
 }

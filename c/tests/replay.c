@@ -7,9 +7,30 @@
 
 #include "vairolent.h"
 
-enum { FILE_MAX = 65535, HEAD = 2, ENTRY = 4, BODY_OPERATIONS = 255 };
-enum { CREATE = 1, OPERATE, SET_VALUE, REMOVE, SIGNAL, EXIT, QUERY };
+enum { FILE_MAX = 65535, HEAD = 2, ENTRY = 4 };
+enum { CREATE = 1, OPERATE, SET_VALUE, REMOVE, SIGNAL, EXIT, QUERY, SET_ALL = 10, READ_ALL, KINDS };
 enum { BAD_TABLE = 201, BAD_OFFSET, BAD_KIND, BAD_BODY };
+
+/* The most operations or values that a body counts. */
+enum { COUNTED_MAX = 255 };
+
+/* The bytes of a body, up to the number of its operations or values if it has any, and the bytes of each of these. */
+struct shape {
+    size_t bytes;
+    size_t each;
+};
+
+static const struct shape shapes[KINDS] = {
+    [CREATE] = {4, 0},
+    [OPERATE] = {7, VAIROLENT_OPERATION_BYTES},
+    [SET_VALUE] = {11, 0},
+    [REMOVE] = {5, 0},
+    [SIGNAL] = {2, 0},
+    [EXIT] = {2, 0},
+    [QUERY] = {7, 0},
+    [SET_ALL] = {6, sizeof(int32_t)},
+    [READ_ALL] = {5, 0},
+};
 
 /* A run file. One byte more than the longest tells that it is too long. */
 static uint8_t file[FILE_MAX + 1];
@@ -44,13 +65,12 @@ static size_t length_of(size_t event)
 /* What is wrong with a body of at least one byte; 0 if nothing. */
 static int body_code(const uint8_t *body, size_t bytes)
 {
-    static const size_t sizes[] = {0, 4, 7, 11, 5, 2, 2, 7};
-    if (body[0] < CREATE || body[0] > QUERY)
+    if (body[0] >= KINDS || shapes[body[0]].bytes == 0)
         return BAD_KIND;
-    size_t size = sizes[body[0]];
-    if (body[0] == OPERATE && bytes >= size)
-        size += VAIROLENT_OPERATION_BYTES * body[6];
-    return bytes == size ? 0 : BAD_BODY;
+    struct shape shape = shapes[body[0]];
+    if (bytes < shape.bytes)
+        return BAD_BODY;
+    return bytes == shape.bytes + shape.each * body[shape.bytes - 1] ? 0 : BAD_BODY;
 }
 
 /* What is wrong with the offsets and the end; 0 if nothing. */
@@ -110,12 +130,20 @@ static void check_set(struct vairolent_queried_set set, uint16_t number, struct 
 /* The operations are copied to where a struct sembuf may lie. */
 static struct vairolent_told operate(const uint8_t *body)
 {
-    struct sembuf operations[BODY_OPERATIONS];
+    struct sembuf operations[COUNTED_MAX];
     memcpy(operations, body + 7, VAIROLENT_OPERATION_BYTES * body[6]);
     return vairolent_operate(&host, body[1], signed_at(body + 2), operations, body[6]);
 }
 
-/* Any event but a query. */
+/* The values are copied to where an int32_t may lie. */
+static struct vairolent_told set_all(const uint8_t *body)
+{
+    int32_t values[COUNTED_MAX];
+    memcpy(values, body + 6, sizeof values[0] * body[5]);
+    return vairolent_set_all(&host, signed_at(body + 1), values, body[5]);
+}
+
+/* Any event but a query and a read all. */
 static struct vairolent_told tell(const uint8_t *body)
 {
     switch (body[0]) {
@@ -129,6 +157,8 @@ static struct vairolent_told tell(const uint8_t *body)
         return vairolent_remove(&host, signed_at(body + 1));
     case SIGNAL:
         return vairolent_signal(&host, body[1]);
+    case SET_ALL:
+        return set_all(body);
     default:
         return vairolent_exit(&host, body[1]);
     }
@@ -172,6 +202,18 @@ static void query(int32_t identifier, uint16_t number)
     check_set(vairolent_query_set(&host, identifier), number, seen);
 }
 
+/* Every number is queried too, and one beyond the last. */
+static void read_all(int32_t identifier)
+{
+    struct vairolent_queried_set set = vairolent_query_set(&host, identifier);
+    printf(" %" PRId32, set.code);
+    for (size_t i = 0; i < set.count; i++)
+        printf(" %d %" PRIu32 " %" PRIu32, set.values[i], set.increase[i], set.zero[i]);
+    putchar('\n');
+    for (uint16_t number = 0; number <= VAIROLENT_SEMAPHORES; number++)
+        check_set(set, number, vairolent_query(&host, identifier, number));
+}
+
 int main(void)
 {
     length = fread(file, 1, sizeof file, stdin);
@@ -187,6 +229,8 @@ int main(void)
         printf("%zu", i);
         if (body[0] == QUERY)
             query(signed_at(body + 1), (uint16_t)number_at(body + 5, 2));
+        else if (body[0] == READ_ALL)
+            read_all(signed_at(body + 1));
         else
             write_told(tell(body));
         body += length_of(i);

@@ -4,7 +4,7 @@ use mathlib.Core.List.{[], _∷_}
 use lib.IntN.{pos, negsuc}
 use Rattle.model.specs.declared.Position.the-variants.{Nowhere, At}
 use Rattle.model.specs.Waking.{waking}
-use Rattle.lines.specs.Text.{digitsIn, digitsOf, signedOf, wordLine, headLine, badLine, positionText, wakingText, wakingsText, eventText, queryText}
+use Rattle.lines.specs.Text.{digitsIn, digitsOf, signedOf, wordLine, headLine, badLine, positionText, wakingText, wakingsText, eventText, queryText, numbersText, readText}
 
 -- `0`, `32767`
 zero-digits : digitsOf 0 ≡ 48 ∷ []
@@ -45,3 +45,12 @@ bad-chain = refl
 refused-query : queryText 10 (pos 22) 0 0 0 0 ≡ 49 ∷ 48 ∷ 32 ∷ 50 ∷ 50 ∷ 32 ∷ 48 ∷ 32 ∷ 48 ∷ 32 ∷ 48 ∷ 32 ∷ 48 ∷ 10 ∷ []
 unfolding digitsIn digitsOf signedOf queryText
 refused-query = refl
+
+-- a reading of two semaphores, one waiting for an increase of the first: `4 0 0 1 0 0 0 0`; and a refused one, `7 22`
+two-read : readText 4 (pos 0) (0 ∷ 1 ∷ 0 ∷ 0 ∷ 0 ∷ 0 ∷ []) ≡ 52 ∷ 32 ∷ 48 ∷ 32 ∷ 48 ∷ 32 ∷ 49 ∷ 32 ∷ 48 ∷ 32 ∷ 48 ∷ 32 ∷ 48 ∷ 32 ∷ 48 ∷ 10 ∷ []
+unfolding digitsIn digitsOf signedOf numbersText readText
+two-read = refl
+
+refused-reading : readText 7 (pos 22) [] ≡ 55 ∷ 32 ∷ 50 ∷ 50 ∷ 10 ∷ []
+unfolding digitsIn digitsOf signedOf numbersText readText
+refused-reading = refl

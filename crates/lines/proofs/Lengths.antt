@@ -1,4 +1,5 @@
--- No line is longer than `lineBytes`, whatever its numbers are within their types and whoever of eight is woken.
+-- No line is longer than `lineBytes`, whatever its numbers are within their types, whoever of eight is woken and however many of
+-- eight semaphores are shown.
 use Prim.Native.Nat.{ℕ, zero, suc, _*_, _≤_}
 use mathlib.Core.List.{List}
 use native.Mathlib.Omega.{arith}
@@ -9,10 +10,10 @@ use mir.Val.{Fits, SFits}
 use Rattle.model.specs.declared.Position.{Position}
 use Rattle.model.specs.declared.Position.the-variants.{Nowhere, At}
 use Rattle.model.specs.declared.Waking.{Waking}
-use Rattle.model.specs.Limits.{processes}
+use Rattle.model.specs.Limits.{semaphores, processes}
 use Rattle.model.specs.Runs.{All, none, also}
-use Rattle.lines.specs.Text.{wordLine, positionText, wakingText, wakingsText, eventText, queryText}
-use Rattle.lines.specs.Buffer.{positionBytes, wakingBytes, lineBytes}
+use Rattle.lines.specs.Text.{wordLine, positionText, wakingText, wakingsText, eventText, queryText, numbersText, readText}
+use Rattle.lines.specs.Buffer.{positionBytes, wakingBytes, numberBytes, lineBytes}
 use Rattle.lines.proofs.Digits.{digits-fit}
 use Rattle.lines.proofs.Signs.{signed-short}
 
@@ -58,6 +59,20 @@ unfolding queryText
 query-short {code = code} p c v l i z =
     simp length-append
     (omega (arith, digits-fit w64 19 tt p, signed-short code c, digits-fit w16 4 tt v, digits-fit w8 2 tt l, digits-fit w32 9 tt i, digits-fit w32 9 tt z))
+
+numbers-short : (n : ℕ) {ns : List ℕ} → length ns ≤ n → All (Fits w32) ns → length (numbersText ns) ≤ numberBytes * n
+unfolding numbersText
+numbers-short n h none = omega arith
+numbers-short zero h (also f fs) = absurd (no h)
+  where
+    no : {m : ℕ} → suc m ≤ 0 → ⊥
+    no z = omega arith
+numbers-short (suc n) h (also f fs) = simp length-append (omega (arith, digits-fit w32 9 tt f, numbers-short n (omega arith) fs))
+
+pub read-short : {position : ℕ} {code : ℤ} {numbers : List ℕ} → Fits w64 position → SFits w32 code → length numbers ≤ 3 * semaphores → All (Fits w32) numbers
+    → length (readText position code numbers) ≤ lineBytes
+unfolding readText
+read-short {code = code} p c n ns = simp length-append (omega (arith, digits-fit w64 19 tt p, signed-short code c, numbers-short (3 * semaphores) n ns))
 
 pub word-short : (word : List ℕ) {n : ℕ} → length word ≤ 8 → Fits w64 n → length (wordLine word n) ≤ lineBytes
 unfolding wordLine

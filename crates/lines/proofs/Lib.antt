@@ -3,5 +3,6 @@ pub mod Digits
 pub mod Signs
 pub mod Writing
 pub mod Wakings
+pub mod NumberRows
 pub mod Lengths
 pub mod Examples

@@ -1,11 +1,12 @@
 -- Writing a text into a lent buffer.
-use Prim.Native.Nat.{ℕ, _+_, _≤_}
+use Prim.Native.Nat.{ℕ, _+_, _*_, _≤_}
 use mathlib.Core.Path.{_≡_}
 use mathlib.Core.Bool.{Bool, cond}
 use mathlib.Core.List.{List}
 use lib.Dec.{leb}
 use lib.ListN.{length}
 use lib.Seq.{paste}
+use Rattle.model.specs.Limits.{semaphores}
 
 -- the buffer with a text at a position, and everything else as it was
 abbrev pub written : List ℕ → ℕ → List ℕ → List ℕ
@@ -34,9 +35,13 @@ wakingBytes = 27
 abbrev pub openingBytes : ℕ
 openingBytes = 32
 
--- no line is longer
+-- a blank and a number of 32 bits
+abbrev pub numberBytes : ℕ
+numberBytes = 11
+
+-- no line is longer than that of a reading: an opening, three numbers for each of eight semaphores, and a newline
 abbrev pub lineBytes : ℕ
-lineBytes = 285
+lineBytes = openingBytes + 3 * semaphores * numberBytes + 1
 
 -- is there room for any line?
 abbrev pub hasRoom : List ℕ → ℕ → Bool

@@ -7,7 +7,7 @@ use lib.IntN.{ℤ, pos, negsuc}
 use Rattle.model.specs.declared.Position.{Position}
 use Rattle.model.specs.declared.Position.the-variants.{Nowhere, At}
 use Rattle.model.specs.declared.Waking.{Waking}
-use Rattle.model.specs.Events.{Event, isQuery, Answer, Result}
+use Rattle.model.specs.Events.{Event, Form, asTold, asSeen, asRead, formOf, Answer, Result, numbersOf}
 
 -- ---- numbers
 
@@ -83,16 +83,33 @@ unfoldable pub queryText : ℕ → ℤ → ℕ → ℕ → ℕ → ℕ → List 
 queryText position code value last forIncrease forZero =
     openingText position code ++ blank ∷ digitsOf value ++ blank ∷ digitsOf last ++ blank ∷ digitsOf forIncrease ++ blank ∷ digitsOf forZero ++ newline ∷ []
 
+-- numbers, a blank before each
+unfoldable pub numbersText : List ℕ → List ℕ
+numbersText [] = []
+numbersText (n ∷ ns) = (blank ∷ digitsOf n) ++ numbersText ns
+
+-- a reading's "line is position, code, then value, for increase, for zero of each semaphore; refused, position and code only"
+unfoldable pub readText : ℕ → ℤ → List ℕ → List ℕ
+readText position code numbers = openingText position code ++ numbersText numbers ++ newline ∷ []
+
 abbrev pub eventLine : ℕ → Result → List ℕ
 eventLine position r = eventText position (r .answer .code) (r .answer .position) (r .answer .value) (r .looks) (r .wakings)
 
 abbrev pub queryLine : ℕ → Answer → List ℕ
 queryLine position a = queryText position (a .code) (a .value) (a .seen .last) (a .seen .increase) (a .seen .zero)
 
+abbrev pub readLine : ℕ → Answer → List ℕ
+readLine position a = readText position (a .code) (numbersOf (a .all))
+
 -- ---- the lines of a list of events
 
+abbrev pub lineAs : Form → ℕ → Result → List ℕ
+lineAs asTold position r = eventLine position r
+lineAs asSeen position r = queryLine position (r .answer)
+lineAs asRead position r = readLine position (r .answer)
+
 unfoldable pub lineOf : ℕ → Event → Result → List ℕ
-lineOf position e r = cond (isQuery e) (queryLine position (r .answer)) (eventLine position r)
+lineOf position e r = lineAs (formOf e) position r
 
 -- "then a line for each", from a position on
 unfoldable pub textOf : ℕ → List Event → List Result → List ℕ

@@ -8,22 +8,30 @@ ghost use mathlib.Core.Path.{_≡_};
 ghost use mathlib.Core.List.{[], _∷_};
 ghost use Prim.Native.Nat.{_+_, _*_, _≤_};
 ghost use lib.Dec.{leb};
-ghost use lib.ListN.{length};
+ghost use lib.ListN.{length, take};
 ghost use lib.IntN.{pos};
-ghost use Rattle.model.specs.Limits.{processes};
+ghost use Rattle.model.specs.Limits.{semaphores, processes};
 ghost use Rattle.wakings.specs.Wakings.{placesIn, wakingsIn};
-ghost use Rattle.lines.specs.Text.{newline, wordLine, headLine, badLine, positionText, wakingText, wakingsText, openingText, eventText, queryText};
-ghost use Rattle.lines.specs.Buffer.{Put, PutIn, putLine, lineBytes, positionBytes, wakingBytes, openingBytes};
+ghost use Rattle.lines.specs.Text.{newline, wordLine, headLine, badLine, positionText, wakingText, wakingsText, openingText, eventText, queryText, numbersText, readText};
+ghost use Rattle.lines.specs.Buffer.{Put, PutIn, putLine, lineBytes, positionBytes, wakingBytes, openingBytes, numberBytes};
 use crate::numbers::marked;
 use crate::numbers::number;
 use crate::numbers::signed;
+use model::ALL_READ;
+use model::ONE_READ;
 use model::Position;
 use model::Queried;
+use model::Reading;
 use model::Told;
 use model::WAKING_BYTES;
 
-// The room that a line function asks for.
-const LINE_BYTES: usize = 285;
+// The room that a line function asks for: that of a reading, which is the longest. It has an opening, three numbers of 32 bits for
+// each of eight semaphores, and a newline.
+const OPENING_BYTES: usize = 32;
+
+const NUMBER_BYTES: usize = 11;
+
+const LINE_BYTES: usize = OPENING_BYTES + ALL_READ * NUMBER_BYTES + 1;
 
 const BLANK: u8 = 32;
 
@@ -171,7 +179,7 @@ fn all_told(out: &mut [u8], at: usize, position: usize, t: Told, list: &[u8; WAK
     ended(out, e)
 }
 
-// The line of any event but a query: what it told, and the wakings in the list that it was lent.
+// The line of any event but a query and a reading: what it told, and the wakings in the list that it was lent.
 pub fn told_line(
     out: &mut [u8],
     at: usize,
@@ -228,4 +236,52 @@ pub fn query_line(out: &mut [u8], at: usize, position: usize, q: Queried) -> usi
         q.increase,
         q.zero,
     )
+}
+
+// Writes the first `count` numbers, and no more than there are, a blank before each.
+fn all_numbers(out: &mut [u8], at: usize, count: usize, numbers: &[u32; ALL_READ]) -> usize
+    requires { ⌜ at + 3 * semaphores * numberBytes ≤ length (now out) ⌝ }
+    ensures { λ r. ⌜ PutIn (3 * semaphores * numberBytes) (now (out .entry)) at (numbersText (take count (now (numbers .entry)))) (now (out .exit)) r ⌝ }
+{
+    let all: &[u32] = numbers;
+    let most = if count < ALL_READ { count } else { ALL_READ };
+    let mut next = at;
+    for k in 0..most {
+        next = marked(out, next, BLANK, all[k] as usize);
+    }
+    next
+}
+
+// The numbers of a reading's line.
+fn all_read(
+    out: &mut [u8],
+    at: usize,
+    position: usize,
+    code: i32,
+    count: u8,
+    numbers: &[u32; ALL_READ],
+) -> usize
+    requires { ⌜ at + lineBytes ≤ length (now out) ⌝ }
+    ensures { λ r. ⌜ PutIn lineBytes (now (out .entry)) at (readText position code (take (3 * count) (now (numbers .entry)))) (now (out .exit)) r ⌝ }
+{
+    let a = opening(out, at, position, code);
+    let b = all_numbers(out, a, ONE_READ * (count as usize), numbers);
+    ended(out, b)
+}
+
+// The line of a reading: its code, and three numbers for each semaphore that it shows, from what it was lent for them.
+pub fn read_line(
+    out: &mut [u8],
+    at: usize,
+    position: usize,
+    reading: Reading,
+    numbers: &[u32; ALL_READ],
+) -> usize
+    ensures { λ r. ⌜ (r, now (out .exit)) ≡ putLine (now (out .entry)) at (readText position (reading .code) (take (3 * reading .count) (now (numbers .entry)))) ⌝ }
+    ensures { λ r. ⌜ r ≤ at + lineBytes ⌝ }
+{
+    if !has_room(out.len(), at) {
+        return at;
+    }
+    all_read(out, at, position, reading.code, reading.count, numbers)
 }

@@ -13,9 +13,10 @@ use Rattle.model.specs.Checks.{identifierOf, slotOf, namesSet, noProcess, aslee
 use Rattle.model.specs.State.{clearRows, cleared}
 use Rattle.model.specs.Events.{doCreate, operated, doOperate, event}
 use Rattle.model.specs.Runs.{run}
-use Rattle.runfile.specs.Fields.{wordAt, signed32}
+use Rattle.model.specs.Values.{signed32}
+use Rattle.runfile.specs.Fields.{wordAt}
 use Rattle.runfile.specs.Table.{countIn, entriesFrom, chains}
-use Rattle.runfile.specs.Body.{sizeOf, sizeIn, operationsIn, eventIn, bodyCode}
+use Rattle.runfile.specs.Body.{fixedOf, eachOf, sizeIn, handedIn, eventIn, bodyCode}
 use Rattle.runfile.specs.File.{fileOf, eventsOf}
 use Rattle.runfile.proofs.Examples.{example}
 use Rattle.lines.specs.Text.{digitsIn, digitsOf, signedOf, wordLine, positionText, wakingText, wakingsText, eventText, lineOf, textOf}
@@ -30,6 +31,6 @@ text =
     ∷ 50 ∷ 32 ∷ 48 ∷ 32 ∷ 48 ∷ 32 ∷ 49 ∷ 32 ∷ 49 ∷ 61 ∷ 48 ∷ 10 ∷ []
 
 whole-example : (engine : Engine) → replayed engine example ≡ text
-unfolding firstLine eventsIn textOfFile textOf lineOf eventText positionText wakingsText wakingText wordLine signedOf digitsOf digitsIn fileOf eventsOf bodyCode eventIn operationsIn sizeIn sizeOf chains entriesFrom countIn signed32 wordAt run event doCreate operated doOperate identifierOf slotOf namesSet noProcess asleep numberTooHigh permitted freeFrom checkCreate checkOperate clearRows cleared waker plain quick plainRound quickRound finish without look lastsAfter applied after valuesOf adjustmentsOf judgeFrom goOn step nextValue nextAdjustment codeOf decidedAt finishes operationsFrom signed16 isZero unmark marked namedBy differing mine maskOf
+unfolding firstLine eventsIn textOfFile textOf lineOf eventText positionText wakingsText wakingText wordLine signedOf digitsOf digitsIn fileOf eventsOf bodyCode eventIn handedIn sizeIn fixedOf eachOf chains entriesFrom countIn signed32 wordAt run event doCreate operated doOperate identifierOf slotOf namesSet noProcess asleep numberTooHigh permitted freeFrom checkCreate checkOperate clearRows cleared waker plain quick plainRound quickRound finish without look lastsAfter applied after valuesOf adjustmentsOf judgeFrom goOn step nextValue nextAdjustment codeOf decidedAt finishes operationsFrom signed16 isZero unmark marked namedBy differing mine maskOf
 whole-example Plain = refl
 whole-example Quick = refl

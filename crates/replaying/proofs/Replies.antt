@@ -1,20 +1,18 @@
 -- An event is run and its reply written: the line is that of the event, and the host is the one after it.
 use Prim.Native.Nat.{ℕ, _+_, _≤_}
 use mathlib.Core.Path.{_≡_, refl, ap, _∙_}
-use mathlib.Core.Bool.{Bool, true, false, cond}
 use mathlib.Core.List.{List}
 use lib.ListN.{length}
 use Rattle.model.specs.declared.Engine.{Engine}
 use Rattle.model.specs.declared.Reply.{Reply}
-use Rattle.model.specs.declared.Reply.the-variants as reply
 use Rattle.model.specs.Waking.{waker}
-use Rattle.model.specs.Events.{Event, isQuery, Result, event}
+use Rattle.model.specs.Events.{Event, Form, asTold, asSeen, asRead, formOf, Result, event}
 use Rattle.host.specs.Holding.{Host, hostOf, stateIn}
 use Rattle.wakings.specs.Wakings.{Place, listOf, wakingsIn}
 use Rattle.wakings.proofs.ListLaws.{take-listed}
-use Rattle.service.specs.After.{toldOf, queriedOf, Replied, replyOf, repliedOf}
+use Rattle.service.specs.After.{Replied, replyAs, readAs, repliedOf}
 use Rattle.runfile.specs.Body.{eventAt}
-use Rattle.lines.specs.Text.{eventText, eventLine, queryLine, lineOf}
+use Rattle.lines.specs.Text.{eventText, eventLine, lineAs, lineOf}
 use Rattle.lines.specs.Buffer.{lineBytes, putLine}
 use Rattle.replaying.specs.Replay.{Stage, nextResult, nextLine, replyText}
 
@@ -23,13 +21,14 @@ module _ (position : ℕ) (r : Result) where
   told : eventText position (r .answer .code) (r .answer .position) (r .answer .value) (r .looks) (wakingsIn (length (r .wakings)) (listOf (r .wakings))) ≡ eventLine position r
   told = ap (eventText position (r .answer .code) (r .answer .position) (r .answer .value) (r .looks)) (take-listed (r .wakings))
 
-  pub reply-line : (e : Event) → replyText position (listOf (r .wakings)) (replyOf e r) ≡ lineOf position e r
+  pub reply-line : (e : Event) → replyText position (listOf (r .wakings)) (readAs (formOf e) r) (replyAs (formOf e) r) ≡ lineOf position e r
   unfolding lineOf
-  reply-line e = by (isQuery e)
+  reply-line e = by (formOf e)
     where
-      by : (b : Bool) → replyText position (listOf (r .wakings)) (cond b (reply.Seen (queriedOf r)) (reply.Told (toldOf r))) ≡ cond b (queryLine position (r .answer)) (eventLine position r)
-      by true = refl
-      by false = told
+      by : (f : Form) → replyText position (listOf (r .wakings)) (readAs f r) (replyAs f r) ≡ lineAs f position r
+      by asTold = told
+      by asSeen = refl
+      by asRead = refl
 
 pub record Turned (engine : Engine) (file : List ℕ) (s : Stage) (out : List ℕ) (next : ℕ) (x : Host) (out′ : List ℕ) (next′ : ℕ) : Type 0 where
   pub host : x ≡ hostOf (nextResult engine file s .state)
@@ -37,15 +36,15 @@ pub record Turned (engine : Engine) (file : List ℕ) (s : Stage) (out : List �
   pub fits : next′ ≤ next + lineBytes
 
 -- what `run` and then `reply_line` promise, of the event that stands next in the file
-pub turned : (engine : Engine) (file : List ℕ) (s : Stage) (out : List ℕ) (next : ℕ) {x : Host} {list : List Place} {reply : Reply} {e : Event} {out′ : List ℕ} {next′ : ℕ}
-    → e ≡ eventAt file (s .at) → record { host = x; wakings = list; reply = reply } ≡ repliedOf e (event (waker engine) (stateIn (s .host)) e)
-    → (next′, out′) ≡ putLine out next (replyText (s .position) list reply) → next′ ≤ next + lineBytes
+pub turned : (engine : Engine) (file : List ℕ) (s : Stage) (out : List ℕ) (next : ℕ) {x : Host} {list : List Place} {read : List ℕ} {reply : Reply} {e : Event} {out′ : List ℕ} {next′ : ℕ}
+    → e ≡ eventAt file (s .at) → record { host = x; wakings = list; reply = reply; read = read } ≡ repliedOf e (event (waker engine) (stateIn (s .host)) e)
+    → (next′, out′) ≡ putLine out next (replyText (s .position) list read reply) → next′ ≤ next + lineBytes
     → Turned engine file s out next x out′ next′
 unfolding nextLine
-turned engine file s out next {x} {list} {reply} at r l fits =
+turned engine file s out next {x} {list} {read} {reply} at r l fits =
     let a = rw at at r in
     record {
       host = ap (λ (y : Replied). y .host) a;
-      put = l ∙ ap (putLine out next) (ap (λ (y : Replied). replyText (s .position) (y .wakings) (y .reply)) a ∙ reply-line (s .position) (nextResult engine file s) (eventAt file (s .at)));
+      put = l ∙ ap (putLine out next) (ap (λ (y : Replied). replyText (s .position) (y .wakings) (y .read) (y .reply)) a ∙ reply-line (s .position) (nextResult engine file s) (eventAt file (s .at)));
       fits = fits;
     }

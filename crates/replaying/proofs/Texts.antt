@@ -3,20 +3,19 @@
 use Prim.Native.Nat.{ℕ, zero, suc, _+_, _-_}
 use native.Mathlib.Omega.{arith}
 use mathlib.Core.Path.{_≡_, refl, sym, ap, _∙_}
-use mathlib.Core.Bool.{Bool, true, false, cond}
 use mathlib.Core.List.{List, [], _∷_, append-nil}
 use Rattle.model.specs.declared.Engine.{Engine}
 use Rattle.model.specs.declared.Engine.the-variants.{Plain, Quick}
-use Rattle.model.specs.Events.{Event, isQuery, Result}
+use Rattle.model.specs.Events.{Event, Form, asTold, asSeen, asRead, formOf, Result, numbersOf}
 use Rattle.model.specs.Runs.{run, start, came, Pairwise, end, next, Alike}
 use Rattle.model.proofs.Engines.{engines-agree}
 use Rattle.host.specs.Holding.{hostOf, stateIn, Held}
 use Rattle.host.proofs.HeldLaws.{state-back, held-fresh, held-next}
 use Rattle.runfile.specs.Body.{eventAt, eventsFrom}
 use Rattle.runfile.specs.File.{bad, fileOf, codeOfFile}
-use Rattle.lines.specs.Text.{queryLine, eventLine, lineOf, textOf}
+use Rattle.lines.specs.Text.{lineAs, lineOf, textOf}
 use Rattle.replaying.specs.Replay.{Stage, firstLine, eventsIn, textOfFile, replayed, startOf, onward, ahead, lastStage}
-use Rattle.replaying.specs.Texts.{LinesAlike, sameFirst, sameQuery, otherLooks, TextsAlike, noLine, andLine, RanAll, RanNothing}
+use Rattle.replaying.specs.Texts.{LinesAlike, sameFirst, sameQuery, sameReading, otherLooks, TextsAlike, noLine, andLine, RanAll, RanNothing}
 use Rattle.replaying.proofs.Turns.{start-events}
 use Rattle.replaying.proofs.Whole.{ahead-onward}
 
@@ -24,11 +23,12 @@ use Rattle.replaying.proofs.Whole.{ahead-onward}
 
 line-alike : (position : ℕ) (e : Event) (quick plain : Result) → Alike quick plain → LinesAlike (lineOf position e quick) (lineOf position e plain)
 unfolding lineOf
-line-alike position e q p a = go (isQuery e)
+line-alike position e q p a = go (formOf e)
   where
-    go : (b : Bool) → LinesAlike (cond b (queryLine position (q .answer)) (eventLine position q)) (cond b (queryLine position (p .answer)) (eventLine position p))
-    go true = rw (a .answer) (sameQuery position (p .answer .code) (p .answer .value) (p .answer .seen .last) (p .answer .seen .increase) (p .answer .seen .zero))
-    go false = rw (a .answer, a .wakings) (otherLooks position (p .answer .code) (p .answer .position) (p .answer .value) (q .looks) (p .looks) (p .wakings) (a .fewer) (a .bounded))
+    go : (f : Form) → LinesAlike (lineAs f position q) (lineAs f position p)
+    go asTold = rw (a .answer, a .wakings) (otherLooks position (p .answer .code) (p .answer .position) (p .answer .value) (q .looks) (p .looks) (p .wakings) (a .fewer) (a .bounded))
+    go asSeen = rw (a .answer) (sameQuery position (p .answer .code) (p .answer .value) (p .answer .seen .last) (p .answer .seen .increase) (p .answer .seen .zero))
+    go asRead = rw (a .answer) (sameReading position (p .answer .code) (numbersOf (p .answer .all)))
 
 lines-alike : (position : ℕ) (es : List Event) (qs ps : List Result) → Pairwise Alike qs ps → TextsAlike (textOf position es qs) (textOf position es ps)
 unfolding textOf

@@ -6,7 +6,7 @@ use lib.Dec.{ltb}
 use lib.ListN.{length, take}
 use Rattle.model.specs.declared.Engine.{Engine}
 use Rattle.model.specs.declared.Reply.{Reply}
-use Rattle.model.specs.declared.Reply.the-variants.{Told, Seen}
+use Rattle.model.specs.declared.Reply.the-variants.{Told, Seen, Read}
 use Rattle.model.specs.State.{freshState}
 use Rattle.model.specs.Waking.{waker}
 use Rattle.model.specs.Events.{Event, Result, event}
@@ -16,7 +16,7 @@ use Rattle.wakings.specs.Wakings.{Place, wakingsIn}
 use Rattle.runfile.specs.Table.{tableEnd}
 use Rattle.runfile.specs.Body.{eventAt, nextAt}
 use Rattle.runfile.specs.File.{File, bad, good, fileOf}
-use Rattle.lines.specs.Text.{headLine, badLine, eventText, queryText, lineOf, textOf}
+use Rattle.lines.specs.Text.{headLine, badLine, eventText, queryText, readText, lineOf, textOf}
 use Rattle.lines.specs.Buffer.{written, hasRoom, putLine}
 use Rattle.replaying.specs.declared.Progress.{Progress}
 
@@ -105,10 +105,11 @@ begun file out =
     let put = putLine out 0 (firstLine (fileOf file)) in
     wrote (startOf file) (put .0) (put .1)
 
--- the line of an event's reply, with the list of wakings that the event was lent
-abbrev pub replyText : ℕ → List Place → Reply → List ℕ
-replyText position list (Told t) = eventText position (t .code) (t .position) (t .value) (t .looks) (wakingsIn (t .woken) list)
-replyText position list (Seen q) = queryText position (q .code) (q .value) (q .last) (q .increase) (q .zero)
+-- the line of an event's reply, with the list of wakings that the event was lent, and the numbers that it read
+abbrev pub replyText : ℕ → List Place → List ℕ → Reply → List ℕ
+replyText position list numbers (Told t) = eventText position (t .code) (t .position) (t .value) (t .looks) (wakingsIn (t .woken) list)
+replyText position list numbers (Seen q) = queryText position (q .code) (q .value) (q .last) (q .increase) (q .zero)
+replyText position list numbers (Read q) = readText position (q .code) numbers
 
 -- events run, and their lines stand one behind the other from a position on, while any is left and any line has room. The
 -- first number is that of the events left.

@@ -12,15 +12,16 @@ use Rattle.model.specs.State.{freshState}
 use Rattle.model.specs.Runs.{run}
 use Rattle.host.specs.Holding.{hostOf}
 use Rattle.runfile.specs.File.{File, fileOf}
-use Rattle.lines.specs.Text.{badLine, eventText, queryText}
+use Rattle.lines.specs.Text.{badLine, eventText, queryText, readText}
 use Rattle.replaying.specs.Replay.{firstLine, eventsIn, replayed, Stage, lastStage, begun, textsFrom}
 
--- a whole line of the quick and of the plain engine: the same first line, the same line of a query, or lines of an event that
--- differ in the looks alone
+-- a whole line of the quick and of the plain engine: the same first line, the same line of a query or of a reading, or lines of an
+-- event that differ in the looks alone
 pub data LinesAlike : List ℕ → List ℕ → Type 0 where
   sameFirst : (f : File) → LinesAlike (firstLine f) (firstLine f)
   sameQuery : (position : ℕ) (code : ℤ) (value last forIncrease forZero : ℕ)
       → LinesAlike (queryText position code value last forIncrease forZero) (queryText position code value last forIncrease forZero)
+  sameReading : (position : ℕ) (code : ℤ) (numbers : List ℕ) → LinesAlike (readText position code numbers) (readText position code numbers)
   otherLooks : (position : ℕ) (code : ℤ) (decided : Position) (value quick plain : ℕ) (wakings : List Waking) → quick ≤ plain → plain ≤ 36
       → LinesAlike (eventText position code decided value quick wakings) (eventText position code decided value plain wakings)
 

@@ -9,6 +9,7 @@ ghost use lib.ListN.{length};
 ghost use Rattle.model.specs.State.{freshState};
 ghost use Rattle.host.specs.Holding.{hostIn, hostOf};
 ghost use Rattle.wakings.specs.Wakings.{placesIn};
+ghost use Rattle.service.specs.After.{readIn};
 ghost use Rattle.lines.specs.Buffer.{lineBytes, putLine};
 ghost use Rattle.replaying.specs.Replay.{Came, stageIn, wroteIn, begun, pieceOf, replyText};
 use host::HOST_BYTES;
@@ -16,8 +17,10 @@ use lines::bad_line;
 use lines::has_room;
 use lines::head_line;
 use lines::query_line;
+use lines::read_line;
 use lines::told_line;
 use model::ALL_ADJUSTMENTS;
+use model::ALL_READ;
 use model::Engine;
 use model::Reply;
 use model::WAKING_BYTES;
@@ -55,20 +58,22 @@ pub fn start(file: &[u8], out: &mut [u8]) -> Progress
     }
 }
 
-// The line of an event's reply, with the wakings in the list that the event was lent.
+// The line of an event's reply, with the wakings in the list that the event was lent, and the numbers of a reading.
 fn reply_line(
     out: &mut [u8],
     at: usize,
     position: usize,
     reply: Reply,
     wakings: &[u8; WAKING_BYTES],
+    numbers: &[u32; ALL_READ],
 ) -> usize
-    ensures { λ r. ⌜ (r, now (out .exit)) ≡ putLine (now (out .entry)) at (replyText position (placesIn (now (wakings .entry))) reply) ⌝ }
+    ensures { λ r. ⌜ (r, now (out .exit)) ≡ putLine (now (out .entry)) at (replyText position (placesIn (now (wakings .entry))) (readIn (now (numbers .entry)) reply) reply) ⌝ }
     ensures { λ r. ⌜ r ≤ at + lineBytes ⌝ }
 {
     match reply {
         Reply::Told(told) => told_line(out, at, position, told, wakings),
         Reply::Seen(answer) => query_line(out, at, position, answer),
+        Reply::Read(reading) => read_line(out, at, position, reading, numbers),
     }
 }
 
@@ -86,6 +91,7 @@ pub fn piece(
     ensures { λ r. ⌜ r .written ≤ length (now (out .exit)) ⌝ }
 {
     let mut wakings = [0u8; WAKING_BYTES];
+    let mut numbers = [0u32; ALL_READ];
     let mut position = p.position;
     let mut left = p.left;
     let mut at = p.at;
@@ -94,18 +100,19 @@ pub fn piece(
         if !has_room(out.len(), next) {
             break;
         }
-        let operations = runfile::operations_at(file, at);
+        let handed = runfile::handed_at(file, at);
         let size = runfile::size_at(file, at);
         let event = runfile::event_at(file, at);
         let reply = run(
             &mut *host,
             &mut *adjustments,
             &mut wakings,
+            &mut numbers,
             engine,
             event,
-            operations,
+            handed,
         );
-        next = reply_line(out, next, position, reply, &wakings);
+        next = reply_line(out, next, position, reply, &wakings, &numbers);
         at += size;
         position += 1;
         left -= 1;

@@ -3,10 +3,11 @@ use Prim.Native.Nat.{ℕ}
 use mathlib.Core.Path.{_≡_, refl}
 use mathlib.Core.List.{List, [], _∷_}
 use lib.IntN.{pos, negsuc}
-use Rattle.model.specs.Events.{create, operate, setValue}
-use Rattle.runfile.specs.Fields.{wordAt, signed32}
+use Rattle.model.specs.Events.{create, operate, setValue, setAll, readAll}
+use Rattle.model.specs.Values.{signed32}
+use Rattle.runfile.specs.Fields.{wordAt}
 use Rattle.runfile.specs.Table.{countIn, entriesFrom, chains}
-use Rattle.runfile.specs.Body.{sizeOf, sizeIn, operationsIn, eventIn, handedIn, handedAt, bodyCode}
+use Rattle.runfile.specs.Body.{fixedOf, eachOf, sizeIn, eventIn, handedIn, handedAt, bodyCode}
 use Rattle.runfile.specs.File.{fileOf, eventsOf, bad, good}
 
 -- "Whole example, 44 bytes"
@@ -26,16 +27,16 @@ whole : fileOf example
     ∷ operate 1 (pos 0) (0 ∷ 0 ∷ 255 ∷ 255 ∷ 0 ∷ 0 ∷ [])
     ∷ operate 2 (pos 0) (0 ∷ 0 ∷ 1 ∷ 0 ∷ 0 ∷ 0 ∷ [])
     ∷ [])
-unfolding wordAt signed32 countIn entriesFrom chains sizeOf sizeIn operationsIn eventIn bodyCode fileOf eventsOf
+unfolding wordAt signed32 countIn entriesFrom chains fixedOf eachOf sizeIn handedIn eventIn bodyCode fileOf eventsOf
 whole = refl
 
 -- beside the create nothing is handed on, beside the operate its operation
 beside-create : handedAt example 14 ≡ []
-unfolding handedIn
+unfolding handedIn eachOf
 beside-create = refl
 
 beside-operate : handedAt example 18 ≡ 0 ∷ 0 ∷ 255 ∷ 255 ∷ 0 ∷ 0 ∷ []
-unfolding handedIn operationsIn
+unfolding handedIn fixedOf eachOf
 beside-operate = refl
 
 -- "Two zero bytes are a good file"
@@ -46,8 +47,20 @@ none = refl
 -- an identifier and a value below zero
 negative : fileOf (1 ∷ 0 ∷ 6 ∷ 0 ∷ 11 ∷ 0 ∷ 3 ∷ 255 ∷ 255 ∷ 255 ∷ 255 ∷ 2 ∷ 1 ∷ 0 ∷ 0 ∷ 0 ∷ 128 ∷ [])
     ≡ good (setValue (negsuc 0) 258 (negsuc 2147483647) ∷ [])
-unfolding wordAt signed32 countIn entriesFrom chains sizeOf sizeIn operationsIn eventIn bodyCode fileOf eventsOf
+unfolding wordAt signed32 countIn entriesFrom chains fixedOf eachOf sizeIn handedIn eventIn bodyCode fileOf eventsOf
 negative = refl
+
+-- all values of a set to 1 and -1, and what is handed on beside it; and all of it read
+wholes : List ℕ
+wholes = 2 ∷ 0 ∷ 10 ∷ 0 ∷ 14 ∷ 0 ∷ 24 ∷ 0 ∷ 5 ∷ 0 ∷ 10 ∷ 4 ∷ 0 ∷ 0 ∷ 0 ∷ 2 ∷ 1 ∷ 0 ∷ 0 ∷ 0 ∷ 255 ∷ 255 ∷ 255 ∷ 255 ∷ 11 ∷ 4 ∷ 0 ∷ 0 ∷ 0 ∷ []
+
+whole-set : fileOf wholes ≡ good (setAll (pos 4) (1 ∷ 0 ∷ 0 ∷ 0 ∷ 255 ∷ 255 ∷ 255 ∷ 255 ∷ []) ∷ readAll (pos 4) ∷ [])
+unfolding wholes wordAt signed32 countIn entriesFrom chains fixedOf eachOf sizeIn handedIn eventIn bodyCode fileOf eventsOf
+whole-set = refl
+
+beside-setting : handedAt wholes 10 ≡ 1 ∷ 0 ∷ 0 ∷ 0 ∷ 255 ∷ 255 ∷ 255 ∷ 255 ∷ []
+unfolding wholes handedIn fixedOf eachOf
+beside-setting = refl
 
 -- the table cut off; a body one byte late; a byte too many; an unknown kind; no body, and one too short for its kind
 table-cut : fileOf (1 ∷ 0 ∷ 6 ∷ 0 ∷ 2 ∷ []) ≡ bad 201
@@ -63,7 +76,7 @@ unfolding countIn entriesFrom chains fileOf
 one-more = refl
 
 unknown : fileOf (1 ∷ 0 ∷ 6 ∷ 0 ∷ 2 ∷ 0 ∷ 255 ∷ 1 ∷ []) ≡ bad 203
-unfolding countIn entriesFrom chains sizeOf sizeIn bodyCode fileOf eventsOf
+unfolding countIn entriesFrom chains fixedOf eachOf sizeIn bodyCode fileOf eventsOf
 unknown = refl
 
 empty : fileOf (1 ∷ 0 ∷ 6 ∷ 0 ∷ 0 ∷ 0 ∷ []) ≡ bad 204
@@ -71,5 +84,23 @@ unfolding countIn entriesFrom chains bodyCode fileOf eventsOf
 empty = refl
 
 too-short : fileOf (1 ∷ 0 ∷ 6 ∷ 0 ∷ 6 ∷ 0 ∷ 2 ∷ 1 ∷ 0 ∷ 0 ∷ 0 ∷ 0 ∷ []) ≡ bad 204
-unfolding countIn entriesFrom chains sizeOf sizeIn bodyCode fileOf eventsOf
+unfolding countIn entriesFrom chains fixedOf eachOf sizeIn bodyCode fileOf eventsOf
 too-short = refl
+
+-- the same of a setting, and one whose values are fewer than its number
+setting-short : fileOf (1 ∷ 0 ∷ 6 ∷ 0 ∷ 5 ∷ 0 ∷ 10 ∷ 0 ∷ 0 ∷ 0 ∷ 0 ∷ []) ≡ bad 204
+unfolding countIn entriesFrom chains fixedOf eachOf sizeIn bodyCode fileOf eventsOf
+setting-short = refl
+
+setting-fewer : fileOf (1 ∷ 0 ∷ 6 ∷ 0 ∷ 10 ∷ 0 ∷ 10 ∷ 0 ∷ 0 ∷ 0 ∷ 0 ∷ 2 ∷ 1 ∷ 0 ∷ 0 ∷ 0 ∷ []) ≡ bad 204
+unfolding countIn entriesFrom chains fixedOf eachOf sizeIn bodyCode fileOf eventsOf
+setting-fewer = refl
+
+-- kinds between and behind those that there are
+eight : fileOf (1 ∷ 0 ∷ 6 ∷ 0 ∷ 1 ∷ 0 ∷ 8 ∷ []) ≡ bad 203
+unfolding countIn entriesFrom chains fixedOf eachOf sizeIn bodyCode fileOf eventsOf
+eight = refl
+
+twelve : fileOf (1 ∷ 0 ∷ 6 ∷ 0 ∷ 1 ∷ 0 ∷ 12 ∷ []) ≡ bad 203
+unfolding countIn entriesFrom chains fixedOf eachOf sizeIn bodyCode fileOf eventsOf
+twelve = refl

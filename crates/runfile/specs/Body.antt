@@ -1,20 +1,20 @@
 -- "A body begins with its kind". A definition whose name ends in `In` takes the bytes from where the body begins on, one whose
 -- name ends in `At` the file and that place.
 --
--- A new kind has its two numbers here, a line in `sizeOf` and one in `eventIn`; where bytes of the body are handed on beside
--- its event, it is in `handedIn` too.
+-- A new kind has its two numbers here, a line in `fixedOf` and one in `eventIn`; where bytes of the body are handed on beside
+-- its event, it is in `eachOf` and `numberAt` too.
 use Prim.Native.Nat.{ℕ, zero, suc, _+_, _*_}
 use mathlib.Core.Bool.{cond}
 use mathlib.Core.List.{List, [], _∷_}
 use lib.Dec.{eqb}
 use lib.IntN.{pos}
 use lib.ListN.{take, drop}
-use Rattle.model.specs.Limits.{operationBytes}
-use Rattle.model.specs.Events.{Event, create, operate, setValue, remove, signal, exit, query}
+use Rattle.model.specs.Limits.{operationBytes, valueBytes}
+use Rattle.model.specs.Events.{Event, create, operate, setValue, remove, signal, exit, query, setAll, readAll}
 use Rattle.runfile.specs.Fields.{byteAt, halfAt, signedAt}
 
 -- ---- the kinds, in the order of the table in "The run file": the number of each, and the bytes of its body. An operate has
--- more bytes, for its operations.
+-- more bytes, for its operations, and a setting for its values.
 
 abbrev pub createKind : ℕ
 createKind = 1
@@ -58,52 +58,79 @@ queryKind = 7
 abbrev pub queryBytes : ℕ
 queryBytes = 7
 
--- the bytes of a body, by its kind and its number of operations, which an operate alone has; 0 for an unknown kind
-unfoldable pub sizeOf : ℕ → ℕ → ℕ
-sizeOf kind number =
+abbrev pub setAllKind : ℕ
+setAllKind = 10
+
+abbrev pub setAllBytes : ℕ
+setAllBytes = 6
+
+abbrev pub readAllKind : ℕ
+readAllKind = 11
+
+abbrev pub readAllBytes : ℕ
+readAllBytes = 5
+
+-- the bytes of a body, before its operations or values; 0 for an unknown kind
+unfoldable pub fixedOf : ℕ → ℕ
+fixedOf kind =
     cond (eqb kind createKind) createBytes
-    (cond (eqb kind operateKind) (operateBytes + operationBytes * number)
+    (cond (eqb kind operateKind) operateBytes
     (cond (eqb kind setValueKind) setValueBytes
     (cond (eqb kind removeKind) removeBytes
     (cond (eqb kind signalKind) signalBytes
     (cond (eqb kind exitKind) exitBytes
     (cond (eqb kind queryKind) queryBytes
-    0))))))
+    (cond (eqb kind setAllKind) setAllBytes
+    (cond (eqb kind readAllKind) readAllBytes
+    0))))))))
+
+-- "number of operations 1, six bytes each", "number of values 1, each value 4 signed": the bytes of each; no other kind has any
+unfoldable pub eachOf : ℕ → ℕ
+eachOf kind =
+    cond (eqb kind operateKind) operationBytes
+    (cond (eqb kind setAllKind) valueBytes
+    0)
+
+-- where their number stands: right before the first of them
+abbrev pub numberAt : ℕ → ℕ
+numberAt kind = cond (eqb kind setAllKind) 5 6
+
+-- the bytes of a body, by its kind and the number of its operations or values
+abbrev pub sizeOf : ℕ → ℕ → ℕ
+sizeOf kind number = fixedOf kind + eachOf kind * number
 
 -- ---- one body
 
 abbrev pub kindIn : List ℕ → ℕ
 kindIn body = byteAt body 0
 
--- the number of operations of an operate
 abbrev pub numberIn : List ℕ → ℕ
-numberIn body = byteAt body 6
+numberIn body = byteAt body (numberAt (kindIn body))
 
--- an operate below 7 bytes has no number; whatever is read in its place, 7 bytes or more are due
+-- a body too short to have its number: whatever is read in its place, more bytes are due than it has
 unfoldable pub sizeIn : List ℕ → ℕ
 sizeIn body = sizeOf (kindIn body) (numberIn body)
 
--- "number of operations 1, six bytes each"
-unfoldable pub operationsIn : List ℕ → List ℕ
-operationsIn body = take (operationBytes * numberIn body) (drop operateBytes body)
+-- the bytes that are handed on beside the event: an operate's operations, or a setting's values
+unfoldable pub handedIn : List ℕ → List ℕ
+handedIn body = take (eachOf (kindIn body) * numberIn body) (drop (fixedOf (kindIn body)) body)
 
 -- "1 create: count, read mask, alter mask (1 byte each). 2 operate: process 1, identifier 4 signed, number of operations 1, six
 -- bytes each. 3 set value: identifier 4, number 2, value 4 signed. 4 remove: identifier 4. 5 signal, 6 exit: process 1. 7 query:
--- identifier 4, number 2." No good file has another kind; what stands for its event is never run.
+-- identifier 4, number 2." "Kind 10 is identifier 4, number of values 1, each value 4 signed; kind 11 is identifier 4." No good
+-- file has another kind; what stands for its event is never run.
 unfoldable pub eventIn : List ℕ → Event
 eventIn body =
     cond (eqb (kindIn body) createKind) (create (byteAt body 1) (byteAt body 2) (byteAt body 3))
-    (cond (eqb (kindIn body) operateKind) (operate (byteAt body 1) (signedAt body 2) (operationsIn body))
+    (cond (eqb (kindIn body) operateKind) (operate (byteAt body 1) (signedAt body 2) (handedIn body))
     (cond (eqb (kindIn body) setValueKind) (setValue (signedAt body 1) (halfAt body 5) (signedAt body 7))
     (cond (eqb (kindIn body) removeKind) (remove (signedAt body 1))
     (cond (eqb (kindIn body) signalKind) (signal (byteAt body 1))
     (cond (eqb (kindIn body) exitKind) (exit (byteAt body 1))
     (cond (eqb (kindIn body) queryKind) (query (signedAt body 1) (halfAt body 5))
-    (query (pos 0) 0)))))))
-
--- the bytes that are handed on beside the event: the operations of an operate
-unfoldable pub handedIn : List ℕ → List ℕ
-handedIn body = cond (eqb (kindIn body) operateKind) (operationsIn body) []
+    (cond (eqb (kindIn body) setAllKind) (setAll (signedAt body 1) (handedIn body))
+    (cond (eqb (kindIn body) readAllKind) (readAll (signedAt body 1))
+    (query (pos 0) 0)))))))))
 
 -- ---- in a file
 

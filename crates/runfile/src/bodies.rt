@@ -1,14 +1,11 @@
 // The bodies: the kinds with their sizes, and the size, the code and the event of a body.
 //
 // A new kind has two constants, and an arm in `fixed` and in `event_at`; if a number in it tells how much it has, it is in
-// `each`, `number` and `operations_at` too. What it means is in specs/Body.antt, and it is an event of the crate model.
+// `each` and `number_at` too. What it means is in specs/Body.antt, and it is an event of the crate model.
 ghost use mathlib.Core.Path.{_≡_};
-ghost use mathlib.Core.Bool.{cond};
-ghost use lib.Dec.{eqb};
 ghost use lib.IntN.{pos};
-ghost use Rattle.model.specs.Limits.{operationBytes};
 ghost use Rattle.model.specs.Events.{eventOf};
-ghost use Rattle.runfile.specs.Body.{operateKind, sizeOf, numberIn, sizeAt, bodyCode, eventAt, handedAt};
+ghost use Rattle.runfile.specs.Body.{fixedOf, eachOf, numberAt, sizeOf, numberIn, sizeAt, bodyCode, eventAt, handedAt};
 use crate::fields::behind;
 use crate::fields::byte_at;
 use crate::fields::first;
@@ -16,8 +13,9 @@ use crate::fields::half_at;
 use crate::fields::signed_at;
 use model::Event;
 use model::OPERATION_BYTES;
+use model::VALUE_BYTES;
 
-// Each kind, and the bytes of its body. An operate has more bytes, for its operations.
+// Each kind, and the bytes of its body. An operate has more bytes, for its operations, and a setting for its values.
 const CREATE: u8 = 1;
 
 const CREATE_BYTES: u8 = 4;
@@ -46,9 +44,17 @@ const QUERY: u8 = 7;
 
 const QUERY_BYTES: u8 = 7;
 
-// The bytes of a body before its operations, 0 if there is no such kind.
+const SET_ALL: u8 = 10;
+
+const SET_ALL_BYTES: u8 = 6;
+
+const READ_ALL: u8 = 11;
+
+const READ_ALL_BYTES: u8 = 5;
+
+// The bytes of a body before its operations or values, 0 if there is no such kind.
 fn fixed(kind: u8) -> u8
-    ensures { λ r. ⌜ r ≡ sizeOf kind 0 ⌝ }
+    ensures { λ r. ⌜ r ≡ fixedOf kind ⌝ }
 {
     match kind {
         CREATE => CREATE_BYTES,
@@ -58,18 +64,24 @@ fn fixed(kind: u8) -> u8
         SIGNAL => SIGNAL_BYTES,
         EXIT => EXIT_BYTES,
         QUERY => QUERY_BYTES,
+        SET_ALL => SET_ALL_BYTES,
+        READ_ALL => READ_ALL_BYTES,
         _ => 0,
     }
 }
 
-// The bytes of one operation, 0 if the kind has none.
+// The bytes of one operation or value, 0 if the kind has none.
 fn each(kind: u8) -> usize
-    ensures { λ r. ⌜ r ≡ cond (eqb kind operateKind) operationBytes 0 ⌝ }
+    ensures { λ r. ⌜ r ≡ eachOf kind ⌝ }
 {
-    if kind == OPERATE { OPERATION_BYTES } else { 0 }
+    match kind {
+        OPERATE => OPERATION_BYTES,
+        SET_ALL => VALUE_BYTES,
+        _ => 0,
+    }
 }
 
-// The bytes of a body, by its kind and its number of operations. As a sum of two choices between constants it needs no
+// The bytes of a body, by its kind and its number of operations or values. As a sum of two choices between constants it needs no
 // jump, which a choice that has the product in one of its arms does.
 fn size_of(kind: u8, number: u8) -> usize
     ensures { λ r. ⌜ r ≡ sizeOf kind number ⌝ }
@@ -77,11 +89,18 @@ fn size_of(kind: u8, number: u8) -> usize
     (fixed(kind) as usize) + each(kind) * (number as usize)
 }
 
-// The number of operations, in a body that is an operate.
+// Where the number of operations or values stands.
+fn number_at(kind: u8) -> usize
+    ensures { λ r. ⌜ r ≡ numberAt kind ⌝ }
+{
+    if kind == SET_ALL { 5 } else { 6 }
+}
+
+// The number of operations or values, in a body that has any.
 fn number(body: &[u8]) -> u8
     ensures { λ r. ⌜ r ≡ numberIn (now (body .entry)) ⌝ }
 {
-    byte_at(body, 6)
+    byte_at(body, number_at(byte_at(body, 0)))
 }
 
 // The bytes that are due to the body at a position, by its kind and number, 0 if there is no such kind.
@@ -119,7 +138,7 @@ fn no_event() -> Event
     }
 }
 
-// The event of the body at a position. The operations of an operate stand beside it.
+// The event of the body at a position. The operations of an operate, or the values of a setting, stand beside it.
 pub fn event_at(file: &[u8], at: usize) -> Event
     ensures { λ r. ⌜ eventOf r (handedAt (now (file .entry)) at) ≡ eventAt (now (file .entry)) at ⌝ }
 {
@@ -155,22 +174,26 @@ pub fn event_at(file: &[u8], at: usize) -> Event
             identifier: signed_at(body, 1),
             number: half_at(body, 5),
         },
+        SET_ALL => Event::SetAll {
+            identifier: signed_at(body, 1),
+        },
+        READ_ALL => Event::ReadAll {
+            identifier: signed_at(body, 1),
+        },
         _ => no_event(),
     }
 }
 
-// The operations of the operate at a position, as far as the file goes; none of another kind. They are a part of the file.
-pub fn operations_at(file: &[u8], at: usize) -> &[u8]
+// The bytes that stand beside the event of the body at a position, as far as the file goes: the operations of an operate, the
+// values of a setting, none of another kind. They are a part of the file.
+pub fn handed_at(file: &[u8], at: usize) -> &[u8]
     ensures { λ r. ⌜ now r ≡ handedAt (now (file .entry)) at ⌝ }
 {
     if file.len() <= at {
         return first(file, 0);
     }
     let body = &file[at..];
-    if body[0] == OPERATE {
-        let rest = behind(body, OPERATE_BYTES as usize);
-        first(rest, OPERATION_BYTES * (number(body) as usize))
-    } else {
-        first(body, 0)
-    }
+    let kind = body[0];
+    let size = each(kind) * (number(body) as usize);
+    first(behind(body, fixed(kind) as usize), size)
 }

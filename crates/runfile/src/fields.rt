@@ -3,7 +3,8 @@ ghost use mathlib.Core.Path.{_≡_};
 ghost use Prim.Native.Nat.{_+_, _<_};
 ghost use lib.ListN.{length, take, drop};
 ghost use Rattle.model.specs.Operation.{two};
-ghost use Rattle.runfile.specs.Fields.{byteAt, halfAt, four, wordAt, signed32, signedAt};
+ghost use Rattle.model.specs.Values.{four, signed32};
+ghost use Rattle.runfile.specs.Fields.{byteAt, halfAt, wordAt, signedAt};
 
 // Two bytes, little-endian.
 fn half(low: u8, high: u8) -> u16

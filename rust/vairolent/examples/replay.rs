@@ -6,8 +6,8 @@ mod through;
 use std::io::{self, Read, Write};
 
 use second::{Event, RunFile, FILE_MAX};
-use through::Told;
-use vairolent::{Host, Waking};
+use through::{Handed, Told};
+use vairolent::{Error, Host, Semaphore, Waking};
 
 fn main() -> io::Result<()> {
     let mut file = Vec::new();
@@ -20,7 +20,7 @@ fn main() -> io::Result<()> {
             text += &format!("events {}\n", run.len());
             let mut host = Host::new();
             for (position, event) in run.events().enumerate() {
-                text += &format!("{position} {}\n", line(&mut host, &event));
+                text += &format!("{position} {}\n", line(&mut host, event));
             }
         }
     }
@@ -28,12 +28,9 @@ fn main() -> io::Result<()> {
 }
 
 /// The line of an event, behind its position.
-fn line(host: &mut Host, event: &Event) -> String {
-    match through::run(host, event, &through::operations(event)) {
-        Told::Refused(error) if matches!(event, Event::Query { .. }) => {
-            format!("{} 0 0 0 0", error.code())
-        }
-        Told::Refused(error) => format!("{} 0 0", code(error.code(), error.position())),
+fn line(host: &mut Host, event: Event) -> String {
+    match through::run(host, &Handed::from(event)) {
+        Told::Refused(error) => refusal(&event, error),
         Told::Asleep(position) => format!("{} 0 0", code(-1, Some(position))),
         Told::Made(identifier) => format!("0 {identifier} 0"),
         Told::Done(wakings) => {
@@ -46,7 +43,22 @@ fn line(host: &mut Host, event: &Event) -> String {
         Told::Seen(seen) => {
             format!("0 {} {} {} {}", seen.value, seen.last, seen.increase, seen.zero)
         }
+        Told::Read(set) => {
+            let shown =
+                |each: &Semaphore| format!(" {} {} {}", each.value, each.increase, each.zero);
+            "0".to_string() + &set.semaphores().iter().map(shown).collect::<String>()
+        }
     }
+}
+
+/// .. of a refused event: its code, and as many zeros as the event has numbers without a set.
+fn refusal(event: &Event, error: Error) -> String {
+    let zeros = match event {
+        Event::Query { .. } => " 0 0 0 0",
+        Event::ReadAll { .. } => "",
+        _ => " 0 0",
+    };
+    code(error.code(), error.position()) + zeros
 }
 
 /// A code, with the position of the operation that decided, if one did.

@@ -13,8 +13,7 @@ fn main() -> Result<(), Error> {
     let mut host = Host::new();
     // A set of two semaphores, for all to read and alter. Their values are how many are free.
     let table = host.create(2, ALL, ALL)?;
-    let _ = host.set_value(table, 0, 3)?; // nobody sleeps yet
-    let _ = host.set_value(table, 1, 2)?;
+    let _ = host.set_all(table, &[3, 2])?; // nobody sleeps yet
 
     for planner in 1..=3 {
         match host.operate(planner, table, &TAKE)? {

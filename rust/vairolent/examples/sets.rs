@@ -7,6 +7,7 @@ mod through;
 use std::process::ExitCode;
 
 use second::{RunFile, State};
+use through::Handed;
 use vairolent::{Error, Host, Semaphore};
 
 const USAGE: &str = "usage: sets FILE...";
@@ -69,7 +70,7 @@ fn replay(run: &RunFile, tally: &mut Tally) -> Result<(), String> {
     let mut host = Host::new();
     let mut ordinary = second::Host::new(second::Rule::Quick);
     for (position, event) in run.events().enumerate() {
-        through::run(&mut host, &event, &through::operations(&event));
+        through::run(&mut host, &Handed::from(event));
         ordinary.handle(&event);
         let live: Vec<i32> = ordinary.live_sets().map(|(identifier, _)| identifier).collect();
         let others = live.iter().map(|identifier| identifier + 4);

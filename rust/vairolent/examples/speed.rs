@@ -8,9 +8,9 @@ use std::process::ExitCode;
 use std::time::{Duration, Instant};
 
 use measured::Table;
-use second::{Event, RunFile};
-use through::Told;
-use vairolent::{Host, Operation};
+use second::RunFile;
+use through::{Handed, Told};
+use vairolent::Host;
 
 const TABLE: Table =
     Table { program: "speed", columns: &["library, ns", "ordinary Rust, ns", "Ratio"], cells };
@@ -26,18 +26,6 @@ fn cells(run: &RunFile, rounds: u32) -> Option<Vec<String>> {
     let (library, ordinary) = (each(library), each(ordinary));
     let ratio = library / ordinary;
     Some(vec![format!("{library:.0}"), format!("{ordinary:.0}"), format!("{ratio:.2}")])
-}
-
-/// An event, and its operations as this package takes them.
-struct Handed<'a> {
-    event: Event<'a>,
-    operations: Vec<Operation>,
-}
-
-impl<'a> From<Event<'a>> for Handed<'a> {
-    fn from(event: Event<'a>) -> Handed<'a> {
-        Handed { event, operations: through::operations(&event) }
-    }
 }
 
 /// The best time of each side; nothing if what they told ever came to another sum.
@@ -59,14 +47,16 @@ fn best(events: &[Handed], rounds: u32) -> Option<[Duration; 2]> {
     Some(best)
 }
 
-/// Code, value, looks and number of wakings of an event, added up; a query's code and value.
+/// Code, value, looks and number of wakings of an event, added up; a query's code and value, or a
+/// read all's code and values.
 fn by_library(host: &mut Host, handed: &Handed) -> i64 {
-    match through::run(host, &handed.event, &handed.operations) {
+    match through::run(host, handed) {
         Told::Refused(error) => error.code().into(),
         Told::Asleep(_) => -1,
         Told::Made(identifier) => identifier.into(),
         Told::Done(wakings) => (wakings.looks() + wakings.len()) as i64,
         Told::Seen(seen) => seen.value.into(),
+        Told::Read(set) => set.semaphores().iter().map(|each| i64::from(each.value)).sum(),
     }
 }
 

@@ -147,6 +147,16 @@ extern "C" {
         value: i32,
     ) -> Told;
 
+    /// The values are so many bytes, four for each, little-endian and signed.
+    pub fn vairolent_set_all_in(
+        row: &mut Row,
+        adjustments: &mut Adjustments,
+        wakings: &mut List,
+        identifier: i32,
+        values: *const u8,
+        bytes: usize,
+    ) -> Told;
+
     pub fn vairolent_remove_in(
         row: &mut Row,
         adjustments: &mut Adjustments,

@@ -28,7 +28,7 @@ pub const ENOSPC: Code = code(28, "ENOSPC", "no slot is free");
 /// Of an operation.
 pub const ERANGE: Code = code(34, "ERANGE", "a value or an adjustment would leave its range");
 /// Of a value to set.
-pub const ERANGE_TO_SET: Code = code(34, "ERANGE", "the value is not 0 to 32,767");
+pub const ERANGE_TO_SET: Code = code(34, "ERANGE", "a value to set is not 0 to 32,767");
 pub const EIDRM: Code = code(43, "EIDRM", "its set was removed");
 
 impl Code {

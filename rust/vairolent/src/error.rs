@@ -41,7 +41,8 @@ coded! {
         ProcessAsleep = EBUSY,
         /// EINVAL: the identifier names no live set, or an argument is bad. A create's count is 0
         /// or over 8; an operate has no operations; the semaphore number of a set value or a query
-        /// is at or above the set's count.
+        /// is at or above the set's count; the values of a set all are not as many as the set has
+        /// semaphores.
         Invalid = EINVAL,
         /// E2BIG: over 32 operations.
         TooManyOperations = E2BIG,
@@ -51,7 +52,7 @@ coded! {
         NotPermitted = EACCES,
         /// ENOSPC: no slot is free.
         NoSlot = ENOSPC,
-        /// ERANGE: the value of a set value is not 0 to 32,767.
+        /// ERANGE: the value of a set value, or one of a set all, is not 0 to 32,767.
         BadValue = ERANGE_TO_SET,
         /// EAGAIN: an operation with IPC_NOWAIT would sleep.
         WouldSleep { position } = EAGAIN,

@@ -1,4 +1,4 @@
-//! The host, the seven events on it, and a whole set shown.
+//! The host, and the nine events on it.
 
 use std::fmt;
 use std::mem::size_of_val;
@@ -18,13 +18,13 @@ use crate::wakings::Wakings;
 ///
 /// # How sleepers are woken
 ///
-/// After an operate that is done, a set value or an exit, those sleepers of the set are judged again
-/// whose operations name a semaphore whose value changed or was set, oldest first. One that no longer
-/// sleeps is woken: with its operations applied, and then it is the last process of all that they
-/// name, or with an error of its own and the position of the operation that now decided. Then those
-/// who name a semaphore whose value it changed are to be judged too, and it begins again with the
-/// oldest, until nobody is left to be judged. Each such judging is a look. So nobody sleeps on who
-/// could finish.
+/// After an operate that is done, a set value, a set all or an exit, those sleepers of the set are
+/// judged again whose operations name a semaphore whose value changed or was set, oldest first. One
+/// that no longer sleeps is woken: with its operations applied, and then it is the last process of
+/// all that they name, or with an error of its own and the position of the operation that now
+/// decided. Then those who name a semaphore whose value it changed are to be judged too, and it
+/// begins again with the oldest, until nobody is left to be judged. Each such judging is a look. So
+/// nobody sleeps on who could finish.
 ///
 /// # Equality
 ///
@@ -56,9 +56,9 @@ macro_rules! lend {
         let Host { row, adjustments } = $host;
         let mut list = List::default();
         // SAFETY: The host is fresh or as the last event left it, since its parts are private and
-        // written here alone. They and the list lie apart, as each is borrowed by itself. An
-        // operate's pointer and bytes are those of a slice that its caller lends. The archive
-        // writes numbers, for which any bytes will do.
+        // written here alone. They and the list lie apart, as each is borrowed by itself. A pointer
+        // and bytes, of operations or values, are those of a slice that the event's caller lends.
+        // The archive writes numbers, for which any bytes will do.
         let told = unsafe { archive::$event(row, adjustments, &mut list, $($argument),*) };
         settled(told, list)
     }};
@@ -214,6 +214,43 @@ impl Host {
         Ok(wakings)
     }
 
+    /// Sets all semaphores of a set at once, to as many values, from semaphore 0 on, and clears the
+    /// set's adjustments for all processes.
+    ///
+    /// Then [sleepers are woken](Host), even if the values are the same as before: each is judged on
+    /// all the new values, and none while only some are set. The last processes stay. What
+    /// [`Host::query_set`] reads can be set again.
+    ///
+    /// # Errors
+    ///
+    /// In the order of the checks:
+    ///
+    /// - [`Error::Invalid`]: the identifier names no live set.
+    /// - [`Error::Invalid`]: the number of values is not the set's count.
+    /// - [`Error::BadValue`]: one of the values is not 0 to 32,767.
+    ///
+    /// ```
+    /// use vairolent::{Answer, Ending, Host, Operation, Waking, ALL};
+    ///
+    /// let mut host = Host::new();
+    /// let set = host.create(2, ALL, ALL)?;
+    /// let _ = host.set_all(set, &[0, 7])?;
+    /// // Process 1 waits for the first semaphore, but not for the second.
+    /// let operations = [Operation::new(0, -1), Operation::new(1, 0).nowait()];
+    /// assert_eq!(host.operate(1, set, &operations)?, Answer::Asleep { position: 0 });
+    /// // By the first value alone it would end with EAGAIN.
+    /// let mut wakings = host.set_all(set, &[5, 0])?;
+    /// assert_eq!(wakings.next(), Some(Waking { process: 1, ending: Ending::Done }));
+    /// # Ok::<(), vairolent::Error>(())
+    /// ```
+    pub fn set_all(&mut self, identifier: i32, values: &[i32]) -> Result<Wakings, Error> {
+        let bytes = size_of_val(values);
+        // They lie in memory as the archive takes them: the platform is little-endian.
+        let values = values.as_ptr().cast();
+        let (_, wakings) = lend!(self to vairolent_set_all_in(identifier, values, bytes))?;
+        Ok(wakings)
+    }
+
     /// Removes a set. Its sleepers are ended with [`Ending::Removed`](crate::Ending::Removed),
     /// oldest first, without a look; its adjustments are put to zero.
     ///
@@ -320,10 +357,12 @@ impl Host {
         })
     }
 
-    /// Shows a whole set: each of its semaphores as [`Host::query`] does.
+    /// Reads all values of a set at once, with all else that queries show: each of its semaphores as
+    /// [`Host::query`] does.
     ///
     /// Each sleeper of the set is judged once for all of them, where a query of each semaphore would
-    /// judge it again and again. It is no event, and these judgings are no looks.
+    /// judge it again and again. These judgings are no looks. In a run file this is the event of
+    /// kind 11, whose line has value, increase and zero of each semaphore.
     ///
     /// # Errors
     ///
@@ -336,7 +375,10 @@ impl Host {
     /// let set = host.create(3, ALL, ALL)?;
     /// assert_eq!(host.operate(3, set, &[Operation::new(0, -1)])?, Answer::Asleep { position: 0 });
     /// assert_eq!(host.operate(5, set, &[Operation::new(2, -1)])?, Answer::Asleep { position: 0 });
+    /// let _ = host.set_all(set, &[0, 4, 0])?;
     /// let seen = host.query_set(set)?;
+    /// let values: Vec<u16> = seen.semaphores().iter().map(|each| each.value).collect();
+    /// assert_eq!(values, [0, 4, 0]);
     /// let waiting: Vec<u32> = seen.semaphores().iter().map(|each| each.increase).collect();
     /// assert_eq!(waiting, [1, 0, 1]);
     /// assert_eq!(seen.judged(), 2);

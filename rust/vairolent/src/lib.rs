@@ -46,6 +46,24 @@
 //! # Ok::<(), vairolent::Error>(())
 //! ```
 //!
+//! # All values at once
+//!
+//! [`Host::set_all`] sets every semaphore of a set, and wakes sleepers only then, so that nobody is
+//! judged on some new values and some old ones. [`Host::query_set`] reads every value, and shows with
+//! it who waits there.
+//!
+//! ```
+//! use vairolent::{Host, ALL};
+//!
+//! let mut host = Host::new();
+//! let set = host.create(3, ALL, ALL)?;
+//! let _ = host.set_all(set, &[4, 0, 1])?; // nobody sleeps yet
+//! let seen = host.query_set(set)?;
+//! let values: Vec<u16> = seen.semaphores().iter().map(|semaphore| semaphore.value).collect();
+//! assert_eq!(values, [4, 0, 1]);
+//! # Ok::<(), vairolent::Error>(())
+//! ```
+//!
 //! # What is proved
 //!
 //! The events are functions of libvairolent.a, which tools/build-library makes from

@@ -19,11 +19,11 @@ use Rattle.replaying.proofs.piece.Statement.{statement}
 use Rattle.replaying.proofs.piece.Tie as tie
 
 abbrev Inv-loop : tie.InvT-loop
-Inv-loop host₀ adjustments₀ engine file out₀ wakings₀ position₀ left₀ at₀ next₀ host adjustments out wakings position left at next =
+Inv-loop host₀ adjustments₀ engine file out₀ wakings₀ numbers₀ position₀ left₀ at₀ next₀ host adjustments out wakings numbers position left at next =
     Going engine file (stage (hostIn host₀ adjustments₀) position₀ left₀ at₀) out₀ (stage (hostIn host adjustments) position left at) out next
 
 abbrev μ-loop : tie.MeasureT-loop
-μ-loop host₀ adjustments₀ engine file out₀ wakings₀ position₀ left₀ at₀ next₀ host adjustments out wakings position left at next = left
+μ-loop host₀ adjustments₀ engine file out₀ wakings₀ numbers₀ position₀ left₀ at₀ next₀ host adjustments out wakings numbers position left at next = left
 
 -- ---- in a turn: the file, the stage, and room for what is read and written
 
@@ -57,8 +57,8 @@ loop-holds c = let s = c .before .before in begins (s .args .engine) (s .args .f
 has-room-requires : tie.Need-has-room-requires Inv-loop μ-loop
 has-room-requires c κs = search needs
 
-operations-at-requires : tie.Need-operations-at-requires Inv-loop μ-loop
-operations-at-requires c κs = search needs
+handed-at-requires : tie.Need-handed-at-requires Inv-loop μ-loop
+handed-at-requires c κs = search needs
 
 size-at-requires : tie.Need-size-at-requires Inv-loop μ-loop
 size-at-requires c κs = search needs
@@ -67,7 +67,7 @@ event-at-requires : tie.Need-event-at-requires Inv-loop μ-loop
 event-at-requires c κs = search needs
 
 run-requires : tie.Need-run-requires Inv-loop μ-loop
-run-requires c κs = held (c .before .before .before .before .before .before .before .before)
+run-requires c κs = held (c .before .before .before .before .before .before .before .before .before)
 
 reply-line-requires : tie.Need-reply-line-requires Inv-loop μ-loop
 reply-line-requires c κs = search needs
@@ -81,10 +81,10 @@ abbrev written : Behind → tie.After-reply-line Inv-loop μ-loop
 written c = c .before .before
 
 abbrev ran : Behind → tie.After-run Inv-loop μ-loop
-ran c = written c .before .before .before
+ran c = written c .before .before .before .before
 
 abbrev read : Behind → tie.After-event-at Inv-loop μ-loop
-read c = ran c .before .before .before .before
+read c = ran c .before .before .before .before .before
 
 abbrev sized : Behind → tie.After-size-at Inv-loop μ-loop
 sized c = read c .before
@@ -103,8 +103,8 @@ did c =
     let l = i .before .loop in
     let w = written c .reply-line in
     let r = read c .event-at in
-    let e = ap (eventOf (r .result)) (sized c .before .operations-at .ensures) ∙ r .ensures in
-    turned (start i .args .engine) (file-of i) (here i) (l .out) (l .next) e (ran c .run .ensures) (w .ensures .0) (w .ensures .1)
+    let e = ap (eventOf (r .result)) (sized c .before .handed-at .ensures) ∙ r .ensures in
+    turned (start i .args .engine) (file-of i) (here i) (l .out) (l .next) e (ran c .run .ensures .0) (w .ensures .0) (w .ensures .1)
 
 -- the bytes of its body
 bytes : (c : Behind) → let i = inner c in i .before .loop .at + sized c .size-at .result ≡ nextAt (file-of i) (i .before .loop .at)
@@ -150,7 +150,7 @@ piece-spec =
     μ-loop
     loop-holds
     has-room-requires
-    operations-at-requires
+    handed-at-requires
     size-at-requires
     event-at-requires
     run-requires

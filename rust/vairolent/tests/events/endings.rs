@@ -1,6 +1,6 @@
 //! Every ending of a sleeper, from every event that wakes.
 
-use vairolent::{Answer, Ending, Error, Host, Operation, Wakings, OPERATIONS, VALUE_MAX};
+use vairolent::{Answer, Ending, Error, Host, Operation, Wakings, ALL, OPERATIONS, VALUE_MAX};
 
 use crate::{sleep, with_set};
 
@@ -39,6 +39,52 @@ fn done_by_a_set_value_for_all_eight() {
     assert_eq!((wakings.len(), wakings.looks()), (8, 8));
     assert_eq!(listed(wakings), sleepers.map(|process| (process, Ending::Done)));
     assert_eq!(host.query(set, 0).map(|semaphore| semaphore.last), Ok(4));
+}
+
+#[test]
+fn done_by_a_set_all_of_eight_values() {
+    let (mut host, set) = with_set(8);
+    let other = host.create(1, ALL, ALL).expect("a slot is free");
+    for process in 2..=8 {
+        let number = u16::from(process) - 1;
+        sleep(&mut host, set, &[process], &[Operation::new(number, -1), TAKE]);
+    }
+    sleep(&mut host, other, &[1], &[TAKE]);
+    let wakings = host.set_all(set, &[7, 1, 1, 1, 1, 1, 1, 1]).expect("set");
+    assert_eq!((wakings.len(), wakings.looks()), (7, 7));
+    assert_eq!(listed(wakings), [2, 3, 4, 5, 6, 7, 8].map(|process| (process, Ending::Done)));
+    let seen = host.query_set(set).expect("seen");
+    assert!(seen.semaphores().iter().all(|semaphore| semaphore.value == 0));
+    // The sleeper of the other set was not judged.
+    assert_eq!(host.query_set(other).map(|seen| seen.judged()), Ok(1));
+}
+
+/// Nobody is judged on one new value and one old one, with which the call would be refused.
+#[test]
+fn done_by_values_that_come_together() {
+    for (first, second) in [(0, 1), (1, 0)] {
+        let (mut host, set) = with_set(2);
+        let mut values = [0, 0];
+        values[usize::from(second)] = 5;
+        assert_eq!(host.set_all(set, &values).map(listed), Ok(vec![]));
+        let operations = [Operation::new(first, -1), Operation::new(second, 0).nowait()];
+        sleep(&mut host, set, &[6], &operations);
+        values.swap(0, 1);
+        assert_eq!(host.set_all(set, &values).map(listed), Ok(vec![(6, Ending::Done)]));
+    }
+}
+
+/// The adjustments are cleared before anybody is judged: without its own, a call leaves the range.
+#[test]
+fn refused_by_the_values_that_were_there() {
+    let (mut host, set) = with_set(2);
+    let _ = done(&mut host, 3, set, &[ADD]);
+    let _ = done(&mut host, 5, set, &[TAKE.undo()]);
+    let most = Operation::new(0, i16::MAX);
+    let back = Operation::new(0, -i16::MAX);
+    sleep(&mut host, set, &[5], &[most.undo(), back, ADD.undo(), Operation::new(1, -1)]);
+    let wanted = vec![(5, Ending::OutOfRange { position: 2 })];
+    assert_eq!(host.set_all(set, &[0, 0]).map(listed), Ok(wanted));
 }
 
 #[test]

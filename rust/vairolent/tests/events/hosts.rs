@@ -85,6 +85,53 @@ fn every_number_of_a_whole_set() {
     assert_eq!(seen.judged(), 1);
 }
 
+/// The values of a set, as they can be set.
+fn values(host: &Host, set: i32) -> Vec<i32> {
+    let seen = host.query_set(set).expect("a live set");
+    seen.semaphores().iter().map(|semaphore| semaphore.value.into()).collect()
+}
+
+#[test]
+fn all_values_at_once_or_each_by_itself() {
+    for count in 1..=8 {
+        let (mut host, set) = with_set(count);
+        let other = host.create(1, ALL, ALL).expect("a slot is free");
+        for (process, number) in (1..=8).zip(0..u16::from(count)) {
+            let hold = [Operation::new(number, 3).undo()];
+            assert!(matches!(host.operate(process, set, &hold), Ok(Answer::Done(_))));
+            let hold = [Operation::new(0, 1).undo()];
+            assert!(matches!(host.operate(process, other, &hold), Ok(Answer::Done(_))));
+        }
+        let mut each = host.clone();
+        let wanted = &[32_767, 0, 1, 256, 255, 32_512, 2, 3][..usize::from(count)];
+        assert_eq!(host.set_all(set, wanted).map(|wakings| wakings.looks()), Ok(0));
+        for (number, &value) in (0..).zip(wanted) {
+            assert!(each.set_value(set, number, value).is_ok());
+        }
+        assert_eq!(host, each);
+        assert_eq!(values(&host, set), wanted);
+        // Nothing is given back of the first set, and all of the other one.
+        assert!((1..=8).all(|process| host.exit(process).is_ok()));
+        assert_eq!(values(&host, set), wanted);
+        assert_eq!(values(&host, other), [0]);
+    }
+}
+
+#[test]
+fn what_is_read_can_be_set_again() {
+    let (mut host, set) = with_set(3);
+    assert!(matches!(host.operate(8, set, &[Operation::new(2, 300)]), Ok(Answer::Done(_))));
+    sleep(&mut host, set, &[1, 4], &[Operation::new(2, -301)]);
+    sleep(&mut host, set, &[2], &[Operation::new(1, -1)]);
+    let before = host.clone();
+    let read = values(&host, set);
+    assert_eq!(read, [0, 0, 300]);
+    // Everybody is judged, and sleeps on.
+    let wakings = host.set_all(set, &read).expect("set");
+    assert_eq!((wakings.len(), wakings.looks()), (0, 3));
+    assert_eq!(host, before);
+}
+
 #[test]
 fn flags_other_than_the_two_are_ignored() {
     let (mut host, set) = with_set(1);

@@ -95,6 +95,9 @@ fn of_each_waking_its_own() {
     }
     sleepers(&mut host);
     assert_eq!(host.set_value(set, 0, 1).map(positions), Ok(wanted.clone()));
+    sleepers(&mut host);
+    let values = [1, VALUE_MAX.into()];
+    assert_eq!(host.set_all(set, &values).map(positions), Ok(wanted.clone()));
     let _ = host.operate(1, set, &[ADD]);
     let _ = host.operate(1, set, &[TAKE.undo()]);
     sleepers(&mut host);

@@ -2,7 +2,7 @@
 
 use std::fmt::Debug;
 
-use vairolent::{Answer, Error, Host, Operation, ALL, OPERATIONS, VALUE_MAX};
+use vairolent::{Answer, Error, Host, Operation, ALL, OPERATIONS, SEMAPHORES, VALUE_MAX};
 
 use crate::{sleep, with_set};
 
@@ -11,6 +11,9 @@ const NO_SETS: [i32; 6] = [1, 4, 262_144, i32::MAX, -1, i32::MIN];
 
 /// Numbers of operations above the limit.
 const TOO_MANY: [usize; 3] = [OPERATIONS + 1, 255, 1_000];
+
+/// What no semaphore can be set to.
+const BAD_VALUES: [i32; 5] = [-1, VALUE_MAX as i32 + 1, 65_536, i32::MIN, i32::MAX];
 
 const ADD: Operation = Operation::new(0, 1);
 const TAKE: Operation = Operation::new(0, -1);
@@ -117,11 +120,52 @@ fn set_value() {
     for number in [2, 8, u16::MAX] {
         refused(&mut host, Error::Invalid, |host| host.set_value(set, number, -1));
     }
-    for value in [-1, i32::from(VALUE_MAX) + 1, 65_536, i32::MIN, i32::MAX] {
+    for value in BAD_VALUES {
         refused(&mut host, Error::BadValue, |host| host.set_value(set, 1, value));
     }
     assert!(host.set_value(set, 1, VALUE_MAX.into()).is_ok());
     assert_eq!(host.query(set, 1).map(|semaphore| semaphore.value), Ok(VALUE_MAX));
+}
+
+/// A fresh host with one set, where a process has an adjustment and another one sleeps.
+fn busy(count: usize) -> (Host, i32) {
+    let (mut host, set) = with_set(count as u8);
+    assert!(matches!(host.operate(1, set, &[ADD.undo(), TAKE]), Ok(Answer::Done(_))));
+    sleep(&mut host, set, &[2], &[TAKE]);
+    (host, set)
+}
+
+/// The number of values is asked for before their range, and the set before both.
+#[test]
+fn set_all_by_its_number() {
+    for count in 1..=SEMAPHORES {
+        let (mut host, set) = busy(count);
+        for length in (0..=40).chain([255, 1_000]).filter(|&length| length != count) {
+            for values in [vec![1; length], vec![-1; length]] {
+                refused(&mut host, Error::Invalid, |host| host.set_all(set, &values));
+            }
+        }
+        for none in NO_SETS {
+            refused(&mut host, Error::Invalid, |host| host.set_all(none, &vec![-1; count]));
+        }
+        assert!(host.set_all(set, &vec![1; count]).is_ok());
+    }
+}
+
+/// One value out of range at each place, and all of them.
+#[test]
+fn set_all_by_its_values() {
+    for count in 1..=SEMAPHORES {
+        let (mut host, set) = busy(count);
+        for value in BAD_VALUES {
+            for place in 0..count {
+                let mut values = vec![VALUE_MAX.into(); count];
+                values[place] = value;
+                refused(&mut host, Error::BadValue, |host| host.set_all(set, &values));
+            }
+            refused(&mut host, Error::BadValue, |host| host.set_all(set, &vec![value; count]));
+        }
+    }
 }
 
 #[test]

@@ -21,7 +21,7 @@ fn errors() {
         (Error::NoSemaphore, "EFBIG (27): a semaphore number is at or above the set's count"),
         (Error::NotPermitted, "EACCES (13): not permitted"),
         (Error::NoSlot, "ENOSPC (28): no slot is free"),
-        (Error::BadValue, "ERANGE (34): the value is not 0 to 32,767"),
+        (Error::BadValue, "ERANGE (34): a value to set is not 0 to 32,767"),
         (
             Error::WouldSleep { position: 0 },
             "EAGAIN (11) at operation 0: an operation with IPC_NOWAIT would sleep",

@@ -31,6 +31,10 @@ impl Random {
         }
     }
 
+    fn value(&mut self) -> i32 {
+        [0, 1, 2, 32_767, self.bits() as i32][self.below(5) as usize]
+    }
+
     fn operation(&mut self) -> Operation {
         let amount = (self.near(7) as i16).wrapping_sub(3);
         let flags = [0, 0, 0, Operation::UNDO, Operation::NOWAIT, self.bits() as u16];
@@ -106,10 +110,11 @@ impl Traffic {
         let refused = match self.random.below(40) {
             0..=1 => self.create(),
             2..=29 => self.operate(),
-            30..=32 => self.set_value(),
-            33 => self.remove(),
-            34..=35 => self.signal(),
-            36..=37 => self.exit(),
+            30..=31 => self.set_value(),
+            32..=33 => self.set_all(),
+            34 => self.remove(),
+            35..=36 => self.signal(),
+            37..=38 => self.exit(),
             _ => self.query(),
         };
         if let Err(error) = refused {
@@ -144,8 +149,20 @@ impl Traffic {
 
     fn set_value(&mut self) -> Result<(), Error> {
         let (identifier, number) = (self.identifier(), self.random.near(3) as u16);
-        let value = [0, 1, 2, 32_767, self.random.bits() as i32][self.random.below(5) as usize];
-        let wakings = self.host.set_value(identifier, number, value)?;
+        let wakings = self.host.set_value(identifier, number, self.random.value())?;
+        self.wake(wakings);
+        Ok(())
+    }
+
+    /// Where nobody is done by it, the values stay as they are set.
+    fn set_all(&mut self) -> Result<(), Error> {
+        let identifier = self.identifier();
+        let values: Vec<i32> = (0..self.random.below(4)).map(|_| self.random.value()).collect();
+        let wakings = self.host.set_all(identifier, &values)?;
+        if wakings.clone().all(|waking| waking.ending != Ending::Done) {
+            let set = self.host.query_set(identifier)?;
+            assert!(set.semaphores().iter().map(|each| i32::from(each.value)).eq(values));
+        }
         self.wake(wakings);
         Ok(())
     }

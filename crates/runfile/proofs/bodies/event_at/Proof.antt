@@ -67,6 +67,12 @@ signed-at-requires-5 c κs = search needs
 half-at-requires-2 : tie.Need-half-at-requires-2
 half-at-requires-2 c κs = search needs
 
+signed-at-requires-6 : tie.Need-signed-at-requires-6
+signed-at-requires-6 c κs = search needs
+
+signed-at-requires-7 : tie.Need-signed-at-requires-7
+signed-at-requires-7 c κs = search needs
+
 no-event-requires-2 : tie.Need-no-event-requires-2
 no-event-requires-2 c κs = search needs
 
@@ -110,10 +116,18 @@ returns-8 c = let m = c .before .before in rw (body-is (m .before), m .match .ke
 
 returns-9 : tie.Need-returns-9
 unfolding eventIn
-returns-9 c =
+returns-9 c = let m = c .before in rw (body-is (m .before), m .match .keys8, toZ-ofZ (record { sfits = c .signed-at6 .ok }), c .signed-at6 .ensures)
+
+returns-10 : tie.Need-returns-10
+unfolding eventIn
+returns-10 c = let m = c .before in rw (body-is (m .before), m .match .keys9, toZ-ofZ (record { sfits = c .signed-at7 .ok }), c .signed-at7 .ensures)
+
+returns-11 : tie.Need-returns-11
+unfolding eventIn
+returns-11 c =
     let m = c .before in
     let r = m .match .rest in
-    rw (c .no-event2 .ensures, body-is (m .before), ne-eqb _ _ (r .0 .0 .0 .0 .0 .0 .1), ne-eqb _ _ (r .0 .0 .0 .0 .0 .1), ne-eqb _ _ (r .0 .0 .0 .0 .1), ne-eqb _ _ (r .0 .0 .0 .1), ne-eqb _ _ (r .0 .0 .1), ne-eqb _ _ (r .0 .1), ne-eqb _ _ (r .1))
+    rw (c .no-event2 .ensures, body-is (m .before), ne-eqb _ _ (r .0 .0 .0 .0 .0 .0 .0 .0 .1), ne-eqb _ _ (r .0 .0 .0 .0 .0 .0 .0 .1), ne-eqb _ _ (r .0 .0 .0 .0 .0 .0 .1), ne-eqb _ _ (r .0 .0 .0 .0 .0 .1), ne-eqb _ _ (r .0 .0 .0 .0 .1), ne-eqb _ _ (r .0 .0 .0 .1), ne-eqb _ _ (r .0 .0 .1), ne-eqb _ _ (r .0 .1), ne-eqb _ _ (r .1))
 
 pub event-at-spec : {M : Type 1} → statement M
 event-at-spec =
@@ -138,6 +152,8 @@ event-at-spec =
     byte-at-requires-6
     signed-at-requires-5
     half-at-requires-2
+    signed-at-requires-6
+    signed-at-requires-7
     no-event-requires-2
     returns-2
     returns-3
@@ -146,4 +162,6 @@ event-at-spec =
     returns-6
     returns-7
     returns-8
-    returns-9)
+    returns-9
+    returns-10
+    returns-11)

@@ -2,13 +2,13 @@
 use mathlib.Core.Path.{_∙_, ap}
 use lib.ListN.{drop-of-length-le}
 use borrow.Author.Needs.{needs}
-use Rattle.runfile.specs.Body.{sizeOf, sizeIn}
+use Rattle.runfile.specs.Body.{fixedOf, eachOf, sizeOf, sizeIn}
 use Rattle.runfile.proofs.Bytes.{to-end}
 use Rattle.runfile.proofs.bodies.size_at.Statement.{statement}
 use Rattle.runfile.proofs.bodies.size_at.Tie as tie
 
 returns : tie.Need-returns
-unfolding sizeIn sizeOf
+unfolding sizeIn fixedOf eachOf
 returns c = rw (drop-of-length-le (c .before .before .args .file .now) (c .if1 .taken))
 
 sub-body : tie.Need-sub-body

@@ -1,35 +1,9 @@
--- `runfile::bodies::size_of` meets its contract: the operations may be added apart.
-use Prim.Native.Nat.{ℕ, _+_, _*_, _≤_}
-use mathlib.Core.Path.{_≡_, refl}
-use mathlib.Core.Bool.{Bool, true, false, cond}
-use native.Mathlib.Nat.{mul-le-mul-right}
+-- `runfile::bodies::size_of` meets its contract.
 use native.Mathlib.Omega.{arith}
-use lib.Dec.{eqb}
 use borrow.Author.Needs.{needs}
-use borrow.Author.Tests.{eqb-true}
-use Rattle.model.specs.Limits.{operationBytes}
-use Rattle.runfile.specs.Body.{operateKind, sizeOf}
+use Rattle.runfile.proofs.Sizes.{product}
 use Rattle.runfile.proofs.bodies.size_of.Statement.{statement}
 use Rattle.runfile.proofs.bodies.size_of.Tie as tie
-
--- the bytes of each operation of a kind
-abbrev eachOf : ℕ → ℕ
-eachOf kind = cond (eqb kind operateKind) operationBytes 0
-
-product : (kind number : ℕ) → eachOf kind * number ≤ operationBytes * number
-product kind number = mul-le-mul-right number (most (eqb kind operateKind))
-  where
-    most : (b : Bool) → cond b operationBytes 0 ≤ operationBytes
-    most true = omega arith
-    most false = omega arith
-
-sum : (kind number : ℕ) → sizeOf kind 0 + eachOf kind * number ≡ sizeOf kind number
-unfolding sizeOf
-sum kind number = by (eqb kind operateKind) refl
-  where
-    by : (b : Bool) → eqb kind operateKind ≡ b → sizeOf kind 0 + eachOf kind * number ≡ sizeOf kind number
-    by true e = rw (eqb-true kind operateKind e) (omega arith)
-    by false e = rw e (omega arith)
 
 fixed-requires : tie.Need-fixed-requires
 fixed-requires c κs = search needs
@@ -47,7 +21,7 @@ add-result : tie.Need-add-result
 add-result c = rw (c .each .ensures) (record { fits = omega (arith, product (c .before .before .args .kind) (c .before .before .args .number), c .before .fixed .ok) })
 
 returns : tie.Need-returns
-returns c = rw (c .each .ensures, c .before .fixed .ensures) (sum (c .before .before .args .kind) (c .before .before .args .number))
+returns c = rw (c .each .ensures, c .before .fixed .ensures)
 
 pub size-of-spec : {M : Type 1} → statement M
 size-of-spec = tie.close (tie.spec fixed-requires cast-result each-requires mul-result add-result returns)

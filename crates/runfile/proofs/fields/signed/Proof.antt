@@ -4,7 +4,7 @@ use mir.Syntax.{w64}
 use mir.Facts.{toZ-ofZ, toZ-pos}
 use borrow.Author.Tests.{lt-ltb, le-ltb}
 use borrow.Author.Needs.{needs}
-use Rattle.runfile.specs.Fields.{signed32}
+use Rattle.model.specs.Values.{signed32}
 use Rattle.runfile.proofs.Bytes.{minus-full}
 use Rattle.runfile.proofs.fields.signed.Statement.{statement}
 use Rattle.runfile.proofs.fields.signed.Tie as tie

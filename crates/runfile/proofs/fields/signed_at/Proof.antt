@@ -2,7 +2,7 @@
 use mathlib.Core.Path.{ap, _∙_}
 use mir.Facts.{toZ-ofZ}
 use borrow.Author.Needs.{needs}
-use Rattle.runfile.specs.Fields.{signed32}
+use Rattle.model.specs.Values.{signed32}
 use Rattle.runfile.proofs.fields.signed_at.Statement.{statement}
 use Rattle.runfile.proofs.fields.signed_at.Tie as tie
 
