@@ -182,11 +182,11 @@ static inline struct vairolent_told vairolent_set_value(struct vairolent_host *h
 }
 
 /* Sets the values of all semaphores of a set at once, from semaphore 0 on, forgets all undo adjustments of the set, and
- * then wakes its sleepers, even if the values are the same. None is woken while only some values are set. The archive's
- * function takes the bytes of the values, four for each, little-endian and signed, at any address: so they stand in a
- * run file, and in an array of int32_t.
- * Refused, the first that applies: EINVAL no such set, or not as many values as it has semaphores (bytes that are no
- * whole values never are); ERANGE one of the values not 0 to 32,767. */
+ * then wakes its sleepers, even if the values are the same; nobody is judged while only some of them are set. The last
+ * processes stay. The archive's function takes the bytes of the values, four for each, little-endian and signed, at any
+ * address: so they stand in a run file, and in an array of int32_t.
+ * Refused, the first that applies: EINVAL no such set; EINVAL the number of values is not the set's count, or bytes not
+ * a multiple of 4; ERANGE one of the values not 0 to 32,767. */
 struct vairolent_told vairolent_set_all_in(uint8_t *row, int16_t *adjustments, struct vairolent_waking *wakings,
                                            int32_t identifier, const uint8_t *values, size_t bytes);
 static inline struct vairolent_told vairolent_set_all(struct vairolent_host *host, int32_t identifier,

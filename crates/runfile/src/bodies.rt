@@ -1,11 +1,15 @@
 // The bodies: the kinds with their sizes, and the size, the code and the event of a body.
 //
 // A new kind has two constants, and an arm in `fixed` and in `event_at`; if a number in it tells how much it has, it is in
-// `each` and `number_at` too. What it means is in specs/Body.antt, and it is an event of the crate model.
+// `each`, `size_at` and `handed_at` too. What it means is in specs/Body.antt, and it is an event of the crate model.
 ghost use mathlib.Core.Path.{_≡_};
+ghost use mathlib.Core.Bool.{cond};
+ghost use Prim.Native.Nat.{_+_, _*_};
+ghost use lib.Dec.{eqb};
 ghost use lib.IntN.{pos};
+ghost use Rattle.model.specs.Limits.{operationBytes};
 ghost use Rattle.model.specs.Events.{eventOf};
-ghost use Rattle.runfile.specs.Body.{fixedOf, eachOf, numberAt, sizeOf, numberIn, sizeAt, bodyCode, eventAt, handedAt};
+ghost use Rattle.runfile.specs.Body.{operateKind, fixedOf, sizeAt, bodyCode, eventAt, handedAt};
 use crate::fields::behind;
 use crate::fields::byte_at;
 use crate::fields::first;
@@ -70,37 +74,19 @@ fn fixed(kind: u8) -> u8
     }
 }
 
-// The bytes of one operation or value, 0 if the kind has none.
+// The bytes of one operation, 0 if the kind has none.
 fn each(kind: u8) -> usize
-    ensures { λ r. ⌜ r ≡ eachOf kind ⌝ }
+    ensures { λ r. ⌜ r ≡ cond (eqb kind operateKind) operationBytes 0 ⌝ }
 {
-    match kind {
-        OPERATE => OPERATION_BYTES,
-        SET_ALL => VALUE_BYTES,
-        _ => 0,
-    }
+    if kind == OPERATE { OPERATION_BYTES } else { 0 }
 }
 
-// The bytes of a body, by its kind and its number of operations or values. As a sum of two choices between constants it needs no
-// jump, which a choice that has the product in one of its arms does.
+// The bytes of a body but a setting's, by its kind and its number of operations. As a sum of two choices between constants it needs
+// no jump, which a choice that has the product in one of its arms does.
 fn size_of(kind: u8, number: u8) -> usize
-    ensures { λ r. ⌜ r ≡ sizeOf kind number ⌝ }
+    ensures { λ r. ⌜ r ≡ fixedOf kind + cond (eqb kind operateKind) operationBytes 0 * number ⌝ }
 {
     (fixed(kind) as usize) + each(kind) * (number as usize)
-}
-
-// Where the number of operations or values stands.
-fn number_at(kind: u8) -> usize
-    ensures { λ r. ⌜ r ≡ numberAt kind ⌝ }
-{
-    if kind == SET_ALL { 5 } else { 6 }
-}
-
-// The number of operations or values, in a body that has any.
-fn number(body: &[u8]) -> u8
-    ensures { λ r. ⌜ r ≡ numberIn (now (body .entry)) ⌝ }
-{
-    byte_at(body, number_at(byte_at(body, 0)))
 }
 
 // The bytes that are due to the body at a position, by its kind and number, 0 if there is no such kind.
@@ -111,7 +97,12 @@ pub fn size_at(file: &[u8], at: usize) -> usize
         return 0;
     }
     let body = &file[at..];
-    size_of(body[0], number(body))
+    let kind = body[0];
+    // A setting is told apart first: one more choice in the sum, and in where the number stands, would cost every body.
+    if kind == SET_ALL {
+        return (SET_ALL_BYTES as usize) + VALUE_BYTES * (byte_at(body, 5) as usize);
+    }
+    size_of(kind, byte_at(body, 6))
 }
 
 // The code of a body at a position, of so many bytes.
@@ -193,7 +184,14 @@ pub fn handed_at(file: &[u8], at: usize) -> &[u8]
         return first(file, 0);
     }
     let body = &file[at..];
-    let kind = body[0];
-    let size = each(kind) * (number(body) as usize);
-    first(behind(body, fixed(kind) as usize), size)
+    if body[0] == SET_ALL {
+        let values = behind(body, SET_ALL_BYTES as usize);
+        return first(values, VALUE_BYTES * (byte_at(body, 5) as usize));
+    }
+    if body[0] == OPERATE {
+        let operations = behind(body, OPERATE_BYTES as usize);
+        first(operations, OPERATION_BYTES * (byte_at(body, 6) as usize))
+    } else {
+        first(body, 0)
+    }
 }

@@ -51,7 +51,7 @@ fn line(host: &mut Host, event: Event) -> String {
     }
 }
 
-/// .. of a refused event: its code, and as many zeros as the event has numbers without a set.
+/// .. of a refused event: its code, and zeros for all else; of a read all its code alone.
 fn refusal(event: &Event, error: Error) -> String {
     let zeros = match event {
         Event::Query { .. } => " 0 0 0 0",

@@ -1,8 +1,10 @@
 -- `service_checks::check_set_all` meets its contract.
+use Prim.Native.Nat.{_*_}
 use mathlib.Core.Path.{_≡_, sym, _∙_}
-use lib.ListN.{getD}
+use lib.ListN.{length, getD}
 use borrow.Author.Needs.{needs}
 use borrow.Author.Tests.{eq-eqb, ne-eqb, not-true, not-false}
+use Rattle.model.specs.Limits.{valueBytes}
 use Rattle.model.specs.State.{noSet}
 use Rattle.model.specs.Checks.{slotOf, namesSet, checkSetAll}
 use Rattle.host.specs.Parts.{rowIn}
@@ -42,7 +44,7 @@ returns-2 : tie.Need-returns-2
 unfolding checkSetAll
 returns-2 c a =
     let n = c .before .before in
-    rw (names (n .before .before .before) ∙ not-false _ (n .before .before .if1 .left), set-is n, ne-eqb _ _ (c .if2 .taken))
+    rw (names (n .before .before .before) ∙ not-false _ (n .before .before .if1 .left), set-is n, ne-eqb (length (n .before .before .before .before .before .args .bytes .now)) (valueBytes * n .set-at .result .count) (c .if2 .taken))
 
 all-in-range-requires : tie.Need-all-in-range-requires
 all-in-range-requires c κs = search needs

@@ -6,6 +6,8 @@ use lib.IntN.{ℤ}
 use Rattle.model.specs.Limits.{processes}
 use Rattle.model.specs.State.{row, clearRows}
 use Rattle.model.specs.Events.{assignedAll}
+use Rattle.model.specs.Values.{valuesIn}
+use Rattle.judging.specs.Value.{valuesHeld}
 use Rattle.host.specs.Parts.{Row, rowIn}
 use Rattle.host.specs.Holding.{tableIn, hostIn}
 use Rattle.host.proofs.PartLaws.{by-parts}
@@ -29,7 +31,7 @@ given h a slot vs r₁ a′ e f = ap₂ hostAs (e ∙ by-parts _ _ refl) f
 returns : tie.Need-returns
 returns c =
     let k = c .before .before .before .before .before .args in
-    given (k .host .now) _ (k .slot) _ _ _ (c .before .before .put-all .ensures) (c .clear-adjustments .ensures)
+    given (k .host .now) (k .adjustments .now) (k .slot) (valuesHeld (valuesIn (k .bytes .now))) _ _ (c .before .before .put-all .ensures) (c .clear-adjustments .ensures)
 
 pub assign-all-spec : {M : Type 1} → statement M
 assign-all-spec = tie.close (tie.spec put-all-requires clear-adjustments-requires returns)

@@ -4,7 +4,7 @@ use native.Mathlib.Omega.{arith}
 use mathlib.Core.Path.{_≡_, refl, sym, _∙_}
 use Rattle.model.specs.State.{row}
 use Rattle.model.specs.Values.{valuesIn}
-use Rattle.host.specs.Parts.{rowIn}
+use Rattle.host.specs.Parts.{values, rowIn, put}
 use Rattle.judging.specs.Value.{valuesHeld}
 use Rattle.service_table.specs.Written.{withValuesFrom}
 use Rattle.service_table.proofs.SettingLaws.{heldFrom, put-more, put-end}
@@ -40,11 +40,16 @@ add-n c = search needs
 loop-less : tie.Need-loop-less Inv-loop μ-loop
 loop-less c = search needs
 
+-- one value stands where it belongs
+wrote : (c : tie.After-put-value Inv-loop μ-loop) → let l = c .before .before .before .before in
+    rowIn (c .put-value .last .0) ≡ put (rowIn (l .loop .host)) values (row (l .before .before .args .slot) + l .loop .n) (c .before .value-in .result)
+wrote c = c .put-value .ensures
+
 loop-again : tie.Need-loop-again Inv-loop μ-loop
 loop-again c =
     let l = c .before .before .before .before in
     let v = c .before in
-    (search needs, put-more (l .before .before .args .bytes .now) (rowIn (l .loop .host)) (rowIn (c .put-value .last .0)) (row (l .before .before .args .slot)) (l .loop .n) (v .before .before .loop-test .taken) (c .put-value .ensures) (v .value-in .ensures) ∙ l .loop .inv .1)
+    (search needs, put-more (l .before .before .args .bytes .now) (rowIn (l .loop .host)) (rowIn (c .put-value .last .0)) (row (l .before .before .args .slot)) (l .loop .n) (v .before .before .loop-test .taken) (wrote c) (v .value-in .ensures) ∙ l .loop .inv .1)
 
 returns : tie.Need-returns Inv-loop μ-loop
 returns c = sym (put-end _ _ _ (c .before .loop .n) (omega arith)) ∙ c .before .loop .inv .1

@@ -1,6 +1,9 @@
 -- By whether it is there, and in range.
+use Prim.Native.Nat.{_*_}
 use mathlib.Core.Path.{sym, _∙_}
 use borrow.Author.Needs.{needs}
+use Rattle.model.specs.Limits.{valueBytes}
+use Rattle.model.specs.Values.{valueAt}
 use Rattle.judging.proofs.Settings.{value-first, value-none, value-read, value-out}
 use Rattle.judging.proofs.setting.value_in.Statement.{statement}
 use Rattle.judging.proofs.setting.value_in.Tie as tie
@@ -27,15 +30,15 @@ returns : tie.Need-returns
 returns c =
     let t = c .before .before .before in
     let s = t .before .before .before .before in
-    value-read (s .args .bytes .now) _ (c .half .ensures) (search needs) (sym (t .before .small-at .ensures) ∙ t .if2 .taken) ∙ sym (value-first _ (s .args .i) (t .before .before .if1 .taken))
+    value-read (s .args .bytes .now) _ (c .half .ensures) (search needs) (sym (t .before .small-at .ensures) ∙ t .if2 .taken) ∙ sym (value-first (s .args .bytes .now) (s .args .i) (t .before .before .if1 .taken))
 
 returns-2 : tie.Need-returns-2
 returns-2 c =
     let s = c .before .before .before .before in
-    sym (value-first _ (s .args .i) (c .before .before .if1 .taken) ∙ value-out _ (sym (c .before .small-at .ensures) ∙ c .if2 .left))
+    sym (value-first (s .args .bytes .now) (s .args .i) (c .before .before .if1 .taken) ∙ value-out (valueAt (s .args .bytes .now) (s .args .i * valueBytes)) (sym (c .before .small-at .ensures) ∙ c .if2 .left))
 
 returns-3 : tie.Need-returns-3
-returns-3 c = sym (value-none _ (c .before .before .args .i) (c .if1 .left))
+returns-3 c = let s = c .before .before in sym (value-none (s .args .bytes .now) (s .args .i) (c .if1 .left))
 
 pub value-in-spec : {M : Type 1} → statement M
 value-in-spec =

@@ -1,9 +1,25 @@
 -- `runfile::bodies::size_of` meets its contract.
+use Prim.Native.Nat.{ℕ, _*_, _≤_}
+use mathlib.Core.Bool.{Bool, true, false, cond}
+use native.Mathlib.Nat.{mul-le-mul-right}
 use native.Mathlib.Omega.{arith}
+use lib.Dec.{eqb}
 use borrow.Author.Needs.{needs}
-use Rattle.runfile.proofs.Sizes.{product}
+use Rattle.model.specs.Limits.{operationBytes}
+use Rattle.runfile.specs.Body.{operateKind}
 use Rattle.runfile.proofs.bodies.size_of.Statement.{statement}
 use Rattle.runfile.proofs.bodies.size_of.Tie as tie
+
+-- the bytes of each operation of a kind
+abbrev eachOf : ℕ → ℕ
+eachOf kind = cond (eqb kind operateKind) operationBytes 0
+
+product : (kind number : ℕ) → eachOf kind * number ≤ operationBytes * number
+product kind number = mul-le-mul-right number (most (eqb kind operateKind))
+  where
+    most : (b : Bool) → cond b operationBytes 0 ≤ operationBytes
+    most true = omega arith
+    most false = omega arith
 
 fixed-requires : tie.Need-fixed-requires
 fixed-requires c κs = search needs

@@ -9,11 +9,12 @@ use Rattle.model.specs.State.{noSet}
 use Rattle.model.specs.Checks.{slotOf, checkSetAll}
 use Rattle.model.specs.Events.{doSetAll}
 use Rattle.host.specs.Parts.{rowIn}
-use Rattle.host.specs.Holding.{Host, setsIn, hostIn, stateIn}
+use Rattle.host.specs.Holding.{Host, setsIn, queueIn, hostIn, stateIn}
+use Rattle.wakings.specs.Wakings.{placesIn}
 use Rattle.service_checks.proofs.FoundSets.{slot-within, set-found}
-use Rattle.service_waking.specs.Lent.{treated}
+use Rattle.service_waking.specs.Lent.{unwoken, treated}
 use Rattle.service.proofs.EventLaws.{refused-after, begun, begun-ready}
-use Rattle.service.proofs.events.set_all.set_all.Proof.Laws.{all-few, all-lent, all-ready, all-after}
+use Rattle.service.proofs.events.set_all.set_all.Proof.Laws.{setTable, all-few, all-lent, all-ready, all-after}
 use borrow.Author.Needs.{needs}
 use Rattle.service.proofs.events.set_all.set_all.Statement.{statement}
 use Rattle.service.proofs.events.set_all.set_all.Tie as tie
@@ -52,6 +53,19 @@ slot-is c = rw (slot c) (slot-within (of-slot c .args .identifier))
 set-is : (c : tie.After-set-at) → let s = of-slot (c .before .before) in c .set-at .result ≡ getD (setsIn (x s .row)) (slotOf (s .args .identifier)) noSet
 set-is c = let s = of-slot (c .before .before) in sym (set-found (s .fits .identifier) (rowIn (s .args .host .now)) (c .before .before .slot-of .ensures) (c .set-at .ensures))
 
+-- the values are set: what a waking is lent
+abbrev of-values : tie.After-every-number → tie.After-assign-all
+of-values c = c .before
+
+lent : (c : tie.After-every-number) → let v = of-values c in let b = of-set v .before .before in let s = of-slot b in
+    record { host = hostIn (v .assign-all .last .0) (v .assign-all .last .1 .0); wakings = placesIn (b .before .before .before .before .clear .last .0); woken = 0 }
+    ≡ unwoken (x s) (setTable (x s) (s .pre) (s .args .identifier) (s .args .values .now) (none (b .before))) (queueIn (x s .row))
+lent c =
+    let v = of-values c in
+    let b = of-set v .before .before in
+    let s = of-slot b in
+    all-lent (x s) (s .pre) _ (s .args .values .now) (none (b .before)) (slot b) (v .assign-all .ensures) (b .before .before .before .before .clear .ensures)
+
 clear-requires : tie.Need-clear-requires
 clear-requires c κs = search needs
 
@@ -83,12 +97,9 @@ nobody-requires c κs = search needs
 wake-requires : tie.Need-wake-requires
 wake-requires c κs =
     let e = of-nobody c in
-    let a = of-set (e .before) in
-    let b = a .before .before in
+    let b = of-set (of-values e) .before .before in
     let s = of-slot b in
-    let z = none (b .before) in
-    let lent = all-lent (x s) (s .pre) _ (s .args .values .now) z (slot b) (e .before .assign-all .ensures) (b .before .before .before .before .clear .ensures) in
-    (slot-is b, (begun-ready (c .nobody .ensures) lent (all-ready (x s) (s .pre) _ (s .args .values .now) z), omega (arith, c .nobody .ensures .0)))
+    (slot-is b, (begun-ready (c .nobody .ensures) (lent e) (all-ready (x s) (s .pre) _ (s .args .values .now) (none (b .before))), omega (arith, c .nobody .ensures .0)))
 
 told-requires : tie.Need-told-requires
 told-requires c κs = search needs
@@ -97,12 +108,10 @@ returns-2 : tie.Need-returns-2
 returns-2 c =
     let n = c .before .before in
     let e = of-nobody n in
-    let a = of-set (e .before) in
+    let a = of-set (of-values e) in
     let b = a .before .before in
     let s = of-slot b in
-    let z = none (b .before) in
-    let lent = all-lent (x s) (s .pre) _ (s .args .values .now) z (slot b) (e .before .assign-all .ensures) (b .before .before .before .before .clear .ensures) in
-    all-after (x s) (s .pre) _ (s .args .values .now) z _ (slot b) (set-is a) (e .every-number .ensures) (begun (n .nobody .ensures) lent (treated _ _ _) (c .before .wake .ensures)) (c .told .ensures)
+    all-after (x s) (s .pre) _ (s .args .values .now) (none (b .before)) _ (slot b) (set-is a) (e .every-number .ensures) (begun (n .nobody .ensures) (lent e) (treated _ _ _) (c .before .wake .ensures)) (c .told .ensures)
 
 pub set-all-spec : {M : Type 1} → statement M
 set-all-spec =
