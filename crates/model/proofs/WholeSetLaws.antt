@@ -86,8 +86,12 @@ unfolding readFrom readsFrom readAt shownAt
 reads-shown s slot k zero h = refl
 reads-shown s slot k (suc n) h =
     let small : k < semaphores = omega arith in
-    rw (each-at (λ (m : ℕ). getD (s .table .values) (row slot + m) 0) k small, each-at (λ (m : ℕ). seenAt s slot m .increase) k small, each-at (λ (m : ℕ). seenAt s slot m .zero) k small,
-    reads-shown s slot (k + 1) n (omega arith))
+    rw (
+      each-at (λ (m : ℕ). getD (s .table .values) (row slot + m) 0) k small,
+      each-at (λ (m : ℕ). seenAt s slot m .increase) k small,
+      each-at (λ (m : ℕ). seenAt s slot m .zero) k small,
+      reads-shown s slot (k + 1) n (omega arith),
+    )
 
 read-checked : (code : ℕ) (s : State) (does : Result) (shown : QueriedSet) → AsRead (does .answer) shown → AsRead (checked code s does .answer) (setChecked code shown)
 unfolding readsFrom

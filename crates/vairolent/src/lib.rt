@@ -236,14 +236,7 @@ pub extern "C" fn vairolent_set_all_in(
     requires { ⌜ Held (hostIn (now row) (now adjustments)) ⌝ }
     ensures { λ r. ⌜ handedIn (now (row .exit)) (now (adjustments .exit)) (now (wakings .exit)) r ≡ handedOf (afterOf (doSetAll (waker Quick) (stateIn (hostIn (now (row .entry)) (now (adjustments .entry)))) identifier (now (values .entry)))) ⌝ }
 {
-    report(service::set_all(
-        row,
-        adjustments,
-        wakings,
-        Engine::Quick,
-        identifier,
-        values,
-    ))
+    report(service::set_all(row, adjustments, wakings, Engine::Quick, identifier, values))
 }
 
 #[no_mangle]
