@@ -123,11 +123,9 @@ mod tests {
 
     #[test]
     fn a_reading_counts_one_at_each_of_eight() {
-        let one = |state: &State| state.for_increase.count_ones() == 1 && state.for_zero == 0;
+        let one = |state: State| state.for_increase.count_ones() == 1 && state.for_zero == 0;
         let counts_one = |answer: &Answer| match answer {
-            Answer::Reading(reading) => {
-                reading.states().len() == 8 && reading.states().iter().all(one)
-            }
+            Answer::Reading(reading) => reading.count == 8 && reading.states().all(one),
             _ => false,
         };
         assert!(answers(readings, Rule::Quick, 8).iter().all(counts_one));

@@ -38,21 +38,17 @@ pub struct State {
     pub for_zero: u8,
 }
 
-/// The answer to a reading: the semaphores of the set in order, each as a query would show it. A
-/// refused one has none.
+/// The answer to a reading: how many semaphores the set has, at each number what a query of that
+/// semaphore would show, and how many arrays were judged for that. A refused one has none.
 #[derive(Clone, Copy, Debug, Default)]
 pub struct Reading {
     pub code: i32,
-    list: [State; SEMAPHORES],
-    length: usize,
-}
-
-/// What a whole set shows: each of its semaphores as a query would, and how many arrays were judged
-/// for that.
-#[derive(Clone, Debug)]
-pub struct SetState {
-    pub states: Vec<State>,
     pub judged: u32,
+    pub count: u8,
+    pub values: [i32; SEMAPHORES],
+    pub last: [u8; SEMAPHORES],
+    pub for_increase: [u8; SEMAPHORES],
+    pub for_zero: [u8; SEMAPHORES],
 }
 
 /// A sleeper that an event finished: its process number, the code it ended with and, where a look
@@ -110,18 +106,15 @@ impl Report {
 }
 
 impl Reading {
-    pub(crate) fn push(&mut self, state: State) {
-        self.list[self.length] = state;
-        self.length += 1;
-    }
-
-    /// The semaphore with this number.
-    pub(crate) fn at(&mut self, number: u16) -> &mut State {
-        &mut self.list[..self.length][usize::from(number)]
-    }
-
-    pub fn states(&self) -> &[State] {
-        &self.list[..self.length]
+    /// The semaphores of the set in order.
+    pub fn states(&self) -> impl ExactSizeIterator<Item = State> + '_ {
+        (0..usize::from(self.count)).map(|n| State {
+            value: self.values[n],
+            last: self.last[n],
+            for_increase: self.for_increase[n],
+            for_zero: self.for_zero[n],
+            ..State::default()
+        })
     }
 }
 

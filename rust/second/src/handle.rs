@@ -1,6 +1,6 @@
-//! The nine events of a host, and a whole set shown.
+//! The nine events of a host.
 
-use crate::answer::{Answer, Reading, Report, SetState, State, ASLEEP};
+use crate::answer::{Answer, Reading, Report, State, ASLEEP};
 use crate::errno::Errno;
 use crate::event::Event;
 use crate::host::{identifier, Host, SLOTS};
@@ -23,7 +23,7 @@ impl Host {
             Event::Exit { process } => self.exit(process).into(),
             Event::Query { identifier, number } => self.query(identifier, number).into(),
             Event::SetAll { identifier, values } => self.set_all(identifier, values).into(),
-            Event::ReadAll { identifier } => self.read_all(identifier).into(),
+            Event::ReadAll { identifier } => self.query_set(identifier).into(),
         }
     }
 
@@ -143,38 +143,25 @@ impl Host {
         Ok(self.treated(slot, u8::MAX))
     }
 
-    fn read_all(&self, identifier: i32) -> Result<Reading, Errno> {
+    /// The whole set at once: each of its sleepers is judged, and waits at the semaphore where it
+    /// stops.
+    pub fn query_set(&self, identifier: i32) -> Result<Reading, Errno> {
         let slot = self.find(identifier)?;
-        let (reading, _) = self.show(slot);
-        Ok(reading)
-    }
-
-    /// The whole set at once.
-    pub fn query_set(&self, identifier: i32) -> Result<SetState, Errno> {
-        let slot = self.find(identifier)?;
-        let (reading, judged) = self.show(slot);
-        Ok(SetState { states: reading.states().to_vec(), judged })
-    }
-
-    /// The semaphores of a set, and how many arrays were judged: each of its sleepers is, and waits
-    /// at the semaphore where it stops.
-    fn show(&self, slot: usize) -> (Reading, u32) {
         let set = &self.sets[slot];
-        let mut reading = Reading::default();
-        for (&value, &last) in set.values.iter().zip(&set.last).take(usize::from(set.count)) {
-            reading.push(State { value, last, ..State::default() });
-        }
-        let mut judged = 0;
+        let (count, values, last) = (set.count, set.values, set.last);
+        let mut reading = Reading { count, values, last, ..Reading::default() };
         for (process, sleeper) in self.queue.of_set(slot) {
-            judged += 1;
+            reading.judged += 1;
             if let Outcome::Sleep(stop) = set.outcome(process, &sleeper.array) {
                 let stopped = sleeper.array.at(stop);
-                let state = reading.at(stopped.number);
-                let waiters =
-                    if stopped.amount < 0 { &mut state.for_increase } else { &mut state.for_zero };
-                *waiters |= process.bit();
+                let waiters = if stopped.amount < 0 {
+                    &mut reading.for_increase
+                } else {
+                    &mut reading.for_zero
+                };
+                waiters[usize::from(stopped.number)] |= process.bit();
             }
         }
-        (reading, judged)
+        Ok(reading)
     }
 }

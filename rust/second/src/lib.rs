@@ -20,7 +20,7 @@ mod runfile;
 mod set;
 mod waking;
 
-pub use answer::{Answer, Reading, Report, SetState, State, Waking, Wakings};
+pub use answer::{Answer, Reading, Report, State, Waking, Wakings};
 pub use bad::Bad;
 pub use errno::Errno;
 pub use event::Event;

@@ -44,7 +44,7 @@ pub fn push_answer(text: &mut Vec<u8>, position: usize, answer: &Answer) {
             push_field(text, reading.code);
             for shown in reading.states() {
                 push_field(text, shown.value);
-                push_counts(text, shown);
+                push_counts(text, &shown);
             }
         }
     }

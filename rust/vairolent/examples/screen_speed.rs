@@ -94,7 +94,7 @@ impl Screen {
 
     /// The same in ordinary Rust.
     fn ordinary(&self) -> u64 {
-        let sum = |state: &second::State| {
+        let sum = |state: second::State| {
             let waiting = state.for_increase.count_ones() + state.for_zero.count_ones();
             state.value as u64 + u64::from(state.last) + u64::from(waiting)
         };
@@ -102,7 +102,7 @@ impl Screen {
             .sets
             .iter()
             .filter_map(|&(identifier, _)| self.ordinary.query_set(identifier).ok());
-        shown.map(|set| set.states.iter().map(sum).sum::<u64>()).sum()
+        shown.map(|set| set.states().map(sum).sum::<u64>()).sum()
     }
 }
 

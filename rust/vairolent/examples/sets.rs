@@ -91,7 +91,7 @@ fn one(host: &Host, ordinary: &second::Host, identifier: i32, tally: &mut Tally)
             tally.judged += seen.judged() as usize;
             let others = ordinary.asleep().count_ones() - seen.judged();
             tally.beside += usize::from(seen.judged() > 0 && others > 0);
-            (states? == wanted.states && seen.judged() == wanted.judged).then_some(())
+            (wanted.states().eq(states?) && seen.judged() == wanted.judged).then_some(())
         }
         (Err(Error::Invalid), Err(second::Errno::Einval)) => {
             tally.refused += 1;

@@ -69,7 +69,7 @@ fn by_ordinary(host: &mut second::Host, handed: &Handed) -> i64 {
         }
         second::Answer::Query(state) => i64::from(state.code) + i64::from(state.value),
         second::Answer::Reading(reading) => {
-            let values = reading.states().iter().map(|state| i64::from(state.value));
+            let values = reading.states().map(|state| i64::from(state.value));
             i64::from(reading.code) + values.sum::<i64>()
         }
     }
