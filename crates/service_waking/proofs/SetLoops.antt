@@ -51,7 +51,7 @@ module _ {engine : Engine} (slot touched : ℕ) (x : Lent) (l : ℕ) (e : engine
   wakes-nobody r z =
       wakes-quick 0 (sym (ap (λ (k : ℕ). markTouched slot k 0 (queueIn (x .host .row))) z ∙ touches-nobody slot (queueIn (x .host .row)))) (quick-nobody slot x l r)
 
-wake-looks : {sets : List Set} (engine : Engine) (slot touched : ℕ) (w : World) (l : ℕ) → Calm sets w → waker engine slot touched w l .looks ≤ l + 36
+pub wake-looks : {sets : List Set} (engine : Engine) (slot touched : ℕ) (w : World) (l : ℕ) → Calm sets w → waker engine slot touched w l .looks ≤ l + 36
 unfolding waker
 wake-looks Plain slot touched w l c = plain-looks slot (length (w .queue)) w l c
 wake-looks Quick slot touched w l c = quick-looks slot (length (w .queue)) _ w l c
