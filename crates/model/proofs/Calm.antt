@@ -17,6 +17,7 @@ use Rattle.model.specs.Waking.{World, Ended, Waker, waker, finish, plain
 use Rattle.model.specs.Checks.{live}
 use Rattle.model.specs.Counts.{countOf}
 use Rattle.model.specs.Events.{treat, treatFrom}
+use Rattle.model.specs.Runs.{All}
 use Rattle.model.proofs.Lists.{all-at, all-without}
 use Rattle.model.specs.Invariant.{Fits, Calm}
 use Rattle.model.proofs.JudgeLaws.{either}
@@ -44,6 +45,25 @@ module _ {sets : List Set} where
   -- a waking keeps it
   pub wake-calm : (engine : Engine) (slot touched : ℕ) (w : World) (l : ℕ) → Calm sets w → Calm sets (waker engine slot touched w l .world)
   wake-calm engine slot touched w l = tame engine .keeps slot touched w l (Calm sets) (calm-kept slot)
+
+-- ---- what a waking keeps
+
+-- what each finish keeps, a waking of several sets keeps
+pub treatFrom-keeps : (engine : Engine) (sets : List Set) (K : World → Type 0) → ((slot : ℕ) → KeptByFinish slot K) → (slot : ℕ) (touches : List ℕ) (e : Ended) → K (e .world)
+    → K (treatFrom (waker engine) sets slot touches e .world)
+unfolding treatFrom treat
+treatFrom-keeps engine sets K kept slot [] e h = h
+treatFrom-keeps engine sets K kept slot (touched ∷ more) e h =
+    treatFrom-keeps engine sets K kept (slot + 1) more (treat (waker engine) sets slot touched e)
+    (either (λ (x : Ended). K (x .world)) (live sets slot) _ _ (tame engine .keeps slot touched (e .world) (e .looks) K (kept slot) h) h)
+
+-- nobody new sleeps: what holds of all sleepers still does
+abbrev pub Asleep : (Sleeper → Type 0) → World → Type 0
+Asleep P w = All P (w .queue)
+
+pub asleep-kept : (P : Sleeper → Type 0) (slot : ℕ) → KeptByFinish slot (Asleep P)
+unfolding finish
+asleep-kept P slot w i h lt mi e = all-without (w .queue) i h
 
 -- ---- looks
 

@@ -11,10 +11,11 @@ use lib.IntN.{ℤ, pos, negsuc, natAbs}
 use borrow.Author.Tests.{eqb-true, eqb-false, ltb-true, ltb-false, leb-true, leb-false, not-false}
 use Rattle.model.specs.declared.Set.{Set}
 use Rattle.model.specs.declared.Operation.{Operation}
-use Rattle.model.specs.Limits.{slots, semaphores, processes, valueMax, operationBytes, arrayBytes, valueBytes}
+use Rattle.model.specs.declared.Wait.{Wait}
+use Rattle.model.specs.Limits.{slots, semaphores, processes, valueMax, timeMax, operationBytes, arrayBytes, valueBytes}
 use Rattle.model.specs.State.{State, Sleeper}
 use Rattle.model.specs.Operation.{operationAt, operationsFrom, operationsOf}
-use Rattle.model.specs.Checks.{check, live, slotOf, namesSet, noProcess, numberTooHigh, freeFrom, freeSlot, checkCreate, checkOperate, checkNumber, inRange, checkSetValue, allInRange, checkSetAll, checkSet, checkProcess}
+use Rattle.model.specs.Checks.{check, live, slotOf, namesSet, noProcess, numberTooHigh, freeFrom, freeSlot, checkCreate, checkOperate, checkNumber, inRange, checkSetValue, allInRange, checkSetAll, checkSet, checkProcess, checkClock}
 use Rattle.model.specs.Values.{valueAt, valuesFrom, valuesIn, held}
 use Rattle.model.specs.Events.{call}
 use Rattle.model.specs.Runs.{All, none, also}
@@ -112,13 +113,13 @@ create-passes s count e =
 
 -- ---- operate
 
-pub record Operable (s : State) (p : ℕ) (i : ℤ) (bytes : List ℕ) : Type 0 where
-  pub fits : Fits (s .sets) (call p i bytes)
-  pub others : All (Other (call p i bytes)) (s .queue)
+pub record Operable (s : State) (p : ℕ) (i : ℤ) (wait : Wait) (bytes : List ℕ) : Type 0 where
+  pub fits : Fits (s .sets) (call (s .time) p i wait bytes)
+  pub others : All (Other (call (s .time) p i wait bytes)) (s .queue)
 
-pub operate-passes : (s : State) (p : ℕ) (i : ℤ) (bytes : List ℕ) → checkOperate s p i bytes ≡ 0 → Operable s p i bytes
+pub operate-passes : (s : State) (p : ℕ) (i : ℤ) (wait : Wait) (bytes : List ℕ) → checkOperate s p i bytes ≡ 0 → Operable s p i wait bytes
 unfolding checkOperate
-operate-passes s p i bytes e =
+operate-passes s p i wait bytes e =
     let a = passes _ 3 _ (zero-lt-suc _) e in
     let b = passes _ 16 _ (zero-lt-suc _) (a .1) in
     let c = passes _ 22 _ (zero-lt-suc _) (b .1) in
@@ -222,3 +223,12 @@ set-passes s i e = names-live (s .sets) i (not-false _ (passes _ 22 0 (zero-lt-s
 pub process-passes : (p : ℕ) → checkProcess p ≡ 0 → (1 ≤ p) × (p ≤ processes)
 unfolding checkProcess
 process-passes p e = process-range p (passes _ 3 0 (zero-lt-suc _) e .0)
+
+-- ---- the clock
+
+pub clock-passes : (s : State) (now : ℕ) → checkClock s now ≡ 0 → (s .time ≤ now) × (now ≤ timeMax)
+unfolding checkClock
+clock-passes s now e =
+    let a = passes _ 22 0 (zero-lt-suc _) e in
+    let b = or-false (ltb now (s .time)) (ltb timeMax now) (a .0) in
+    (ltb-false now (s .time) (b .0), ltb-false timeMax now (b .1))

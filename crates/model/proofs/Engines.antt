@@ -11,14 +11,15 @@ use Rattle.model.specs.declared.Engine.the-variants.{Plain, Quick}
 use Rattle.model.specs.Limits.{slots, allSemaphores, allAdjustments}
 use Rattle.model.specs.State.{Sleeper, State, freshState, noSet}
 use Rattle.model.specs.Waking.{waker}
-use Rattle.model.specs.Checks.{slotOf, freeSlot, checkCreate, checkNumber, checkSet, checkProcess}
-use Rattle.model.specs.Events.{Event, create, operate, setValue, remove, signal, exit, query, setAll, readAll, event, keep, doCreate, doRemove, doSignal, doQuery, doReadAll, notOf, notMine}
+use Rattle.model.specs.Clock.{notDue}
+use Rattle.model.specs.Checks.{slotOf, freeSlot, checkCreate, checkNumber, checkSet, checkProcess, checkClock}
+use Rattle.model.specs.Events.{Event, create, operate, setValue, remove, signal, exit, query, setAll, readAll, clock, event, keep, doCreate, doRemove, doSignal, doQuery, doReadAll, doClock, notOf, notMine}
 use Rattle.model.specs.Runs.{Run, run, Reached, start, came, none, Pairwise, end, next, Alike, EnginesAgree}
 use Rattle.model.specs.Invariant.{Fits, Invariant, alone, countAt}
 use Rattle.model.proofs.Lists.{all-map, all-replicate}
 use Rattle.model.proofs.QueueLaws.{keep-test}
 use Rattle.model.proofs.CleanLaws.{fresh-clean}
-use Rattle.model.proofs.CheckLaws.{alive, Creatable, create-passes, set-passes}
+use Rattle.model.proofs.CheckLaws.{alive, Creatable, create-passes, set-passes, clock-passes}
 use Rattle.model.proofs.Agree.{slot-other}
 use Rattle.model.proofs.EventLaws.{Agrees, quiet, checked-agrees, cleared-kept, keep-kept}
 use Rattle.model.proofs.WakingEvents.{operate-agrees, setValue-agrees, setAll-agrees, exit-agrees}
@@ -39,7 +40,7 @@ remove-agrees : (s : State) (i : ℤ) → Invariant s → Agrees (doRemove s i) 
 unfolding doRemove
 remove-agrees s j i =
     checked-agrees (checkSet s j) s _ _ i (λ e.
-    quiet _ refl (cleared-kept (record { sets = s .sets; table = s .table; queue = keep (notMine (slotOf j)) (s .queue) }) (slotOf j) _ (keep-kept s (notMine (slotOf j)) i) (set-passes s j e .slot) (omega arith) (λ e. refl)
+    quiet _ refl (cleared-kept (record { sets = s .sets; table = s .table; queue = keep (notMine (slotOf j)) (s .queue); time = s .time }) (slotOf j) _ (keep-kept s (notMine (slotOf j)) i) (set-passes s j e .slot) (omega arith) (λ e. refl)
     (all-map (λ c n. slot-other (slotOf j) c (not-true _ n)) (keep-test (notMine (slotOf j)) (s .queue)))))
 
 signal-agrees : (s : State) (p : ℕ) → Invariant s → Agrees (doSignal s p) (doSignal s p)
@@ -54,12 +55,32 @@ readAll-agrees : (s : State) (i : ℤ) → Invariant s → Agrees (doReadAll s i
 unfolding doReadAll
 readAll-agrees s j i = checked-agrees (checkSet s j) s _ _ i (λ e. quiet _ refl i)
 
+-- whoever is left is not due
+clock-agrees : (s : State) (now : ℕ) → Invariant s → Agrees (doClock s now) (doClock s now)
+unfolding doClock
+clock-agrees s now i =
+    checked-agrees (checkClock s now) s _ _ i (λ e.
+    let k = keep-kept s (notDue now) i in
+    quiet _ refl
+    (record {
+      sets = k .sets;
+      counts = k .counts;
+      vacant = k .vacant;
+      good = k .good;
+      clean = k .clean;
+      fits = k .fits;
+      distinct = k .distinct;
+      stuck = k .stuck;
+      time = clock-passes s now e .1;
+      inTime = all-map (λ q n. not-true _ n) (keep-test (notDue now) (s .queue));
+    }))
+
 -- ---- any event
 
 pub event-agrees : (s : State) (e : Event) → Invariant s → Agrees (event (waker Quick) s e) (event (waker Plain) s e)
 unfolding event
 event-agrees s (create count read alter) i = create-agrees s count read alter i
-event-agrees s (operate p j bytes) i = operate-agrees s p j bytes i
+event-agrees s (operate p j wait bytes) i = operate-agrees s p j wait bytes i
 event-agrees s (setValue j n v) i = setValue-agrees s j n v i
 event-agrees s (remove j) i = remove-agrees s j i
 event-agrees s (signal p) i = signal-agrees s p i
@@ -67,6 +88,7 @@ event-agrees s (exit p) i = exit-agrees s p i
 event-agrees s (query j n) i = query-agrees s j n i
 event-agrees s (setAll j bytes) i = setAll-agrees s j bytes i
 event-agrees s (readAll j) i = readAll-agrees s j i
+event-agrees s (clock now) i = clock-agrees s now i
 
 pub event-kept : (engine : Engine) (s : State) (e : Event) → Invariant s → Invariant (event (waker engine) s e .state)
 event-kept Quick s e i = event-agrees s e i .kept
@@ -95,6 +117,8 @@ fresh-invariant =
       fits = none;
       distinct = alone;
       stuck = none;
+      time = omega arith;
+      inTime = none;
     }
 
 pub reached : {s : State} → Reached s → Invariant s
@@ -120,8 +144,8 @@ runs-agree s (e ∷ events) i =
     record { each = next (a .alike) (q .each); last = q .last; kept = q .kept }
 
 -- Demand 3: at each event the same answer and the same wakings, quick looks ≤ plain looks ≤ 36; the same last state; and none of
--- its sleepers could finish.
+-- its sleepers could finish or is overdue.
 pub engines-agree : (events : List Event) → EnginesAgree events
 engines-agree events =
     let r : RunsAgree (run Quick freshState events) (run Plain freshState events) = runs-agree freshState events fresh-invariant in
-    record { alike = r .each; last = r .last; stuck = r .kept .stuck }
+    record { alike = r .each; last = r .last; stuck = r .kept .stuck; inTime = r .kept .inTime }

@@ -13,7 +13,7 @@ use Rattle.model.specs.Limits.{slots, semaphores}
 use Rattle.model.specs.State.{Sleeper, State, noSet, cleared}
 use Rattle.model.specs.Waking.{World, Ended, couldFinish}
 use Rattle.model.specs.Events.{Result, refused, checked, wokenAs, keep}
-use Rattle.model.specs.Runs.{All, Alike}
+use Rattle.model.specs.Runs.{All, Alike, InTime}
 use Rattle.model.specs.Invariant.{Vacant, Clean, Fits, Invariant, Calm, countAt}
 use Rattle.model.proofs.Lists.{all-zip, all-zip3, all-set}
 use Rattle.model.proofs.QueueLaws.{keep-all, keep-distinct}
@@ -37,12 +37,12 @@ checked-agrees (suc code) s x y i f = quiet (refused s (suc code)) refl i
 
 -- an event that ends in a waking
 pub woken-agrees : (s : State) (a b : Ended) → Invariant s → a .world ≡ b .world → a .looks ≤ b .looks → b .looks ≤ 36 → Calm (s .sets) (a .world) → Clean (s .sets) (a .world .table)
-    → All (λ (q : Sleeper). couldFinish (a .world .table) q ≡ false) (a .world .queue) → Agrees (wokenAs s a) (wokenAs s b)
-woken-agrees s a b i e le most c clean stuck =
+    → All (λ (q : Sleeper). couldFinish (a .world .table) q ≡ false) (a .world .queue) → All (InTime s) (a .world .queue) → Agrees (wokenAs s a) (wokenAs s b)
+woken-agrees s a b i e le most c clean stuck inTime =
     record {
       alike = record { answer = refl; wakings = ap (λ (w : World). w .wakings) e; fewer = le; bounded = most };
-      state = ap (λ (w : World). record { sets = s .sets; table = w .table; queue = w .queue }) e;
-      kept = record { sets = i .sets; counts = i .counts; vacant = i .vacant; good = c .good; clean = clean; fits = c .fits; distinct = c .distinct; stuck = stuck };
+      state = ap (λ (w : World). record { sets = s .sets; table = w .table; queue = w .queue; time = s .time }) e;
+      kept = record { sets = i .sets; counts = i .counts; vacant = i .vacant; good = c .good; clean = clean; fits = c .fits; distinct = c .distinct; stuck = stuck; time = i .time; inTime = inTime };
     }
 
 -- ---- create and remove put a set into a slot
@@ -55,7 +55,7 @@ fits-set sets slot k q ne f =
 
 -- a slot at which nobody sleeps is cleared and given a set
 pub cleared-kept : (s : State) (slot : ℕ) (k : Set) → Invariant s → slot < slots → k .count ≤ semaphores → Vacant k → All (λ (q : Sleeper). q .slot ≢ slot) (s .queue)
-    → Invariant (record { sets = set (s .sets) slot k; table = cleared (s .table) slot; queue = s .queue })
+    → Invariant (record { sets = set (s .sets) slot k; table = cleared (s .table) slot; queue = s .queue; time = s .time })
 cleared-kept s slot k i hs hk hv ne =
     record {
       sets = length-set (s .sets) slot k ∙ i .sets;
@@ -66,10 +66,12 @@ cleared-kept s slot k i hs hk hv ne =
       fits = all-zip (fits-set (s .sets) slot k) ne (i .fits);
       distinct = i .distinct;
       stuck = all-zip3 (λ q f n e. cleared-stuck (i .counts) (s .table) q (i .good) f slot hs n e) (i .fits) ne (i .stuck);
+      time = i .time;
+      inTime = i .inTime;
     }
 
 -- taking sleepers out of the queue keeps the invariant
-pub keep-kept : (s : State) (test : Sleeper → Bool) → Invariant s → Invariant (record { sets = s .sets; table = s .table; queue = keep test (s .queue) })
+pub keep-kept : (s : State) (test : Sleeper → Bool) → Invariant s → Invariant (record { sets = s .sets; table = s .table; queue = keep test (s .queue); time = s .time })
 keep-kept s test i =
     record {
       sets = i .sets;
@@ -80,4 +82,6 @@ keep-kept s test i =
       fits = keep-all test (s .queue) (i .fits);
       distinct = keep-distinct test (s .queue) (i .distinct);
       stuck = keep-all test (s .queue) (i .stuck);
+      time = i .time;
+      inTime = keep-all test (s .queue) (i .inTime);
     }

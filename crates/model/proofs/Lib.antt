@@ -9,6 +9,7 @@ pub mod LookLaws
 pub mod QueueLaws
 pub mod TableLaws
 pub mod CheckLaws
+pub mod ClockLaws
 pub mod Ones
 -- a waking, in either engine:
 pub mod WakingLaws

@@ -18,22 +18,25 @@ use Rattle.model.specs.declared.Position.{Position}
 use Rattle.model.specs.declared.Position.the-variants.{Nowhere, At}
 use Rattle.model.specs.declared.Copies.{Copies}
 use Rattle.model.specs.declared.Judged.{Judged}
-use Rattle.model.specs.declared.Engine.{Engine}
+use Rattle.model.specs.declared.Wait.{Wait}
 use Rattle.model.specs.declared.Set.{Set}
+use Rattle.model.specs.declared.Engine.{Engine}
 use Rattle.model.specs.Limits.{operations, operationBytes}
 use Rattle.model.specs.State.{State, Table, Sleeper, noSleeper}
 use Rattle.model.specs.Operation.{operationsFrom, operationsOf}
 use Rattle.model.specs.Judge.{judged, step, goOn, judgeFrom, judge, codeOf, decidedAt, deciderOf, finishes}
 use Rattle.model.specs.Look.{copiesOf, look}
-use Rattle.model.specs.Waking.{World, Ended, Waker, waker, waking, finish}
-use Rattle.model.specs.Checks.{live, slotOf, checkCreate, checkOperate, checkNumber, checkSetValue, checkSetAll, checkSet, checkProcess}
-use Rattle.model.specs.Events.{Event, create, operate, setValue, remove, signal, exit, query, setAll, readAll, Result, checked, endedWith, operated, call, treat, treatFrom, event, doCreate, doOperate, doSetValue, doRemove, doSignal, doExit, doQuery, doSetAll, doReadAll}
+use Rattle.model.specs.Waking.{World, Waker, waker, waking, finish}
+use Rattle.model.specs.Clock.{atOnce}
+use Rattle.model.specs.Checks.{slotOf, checkCreate, checkOperate, checkNumber, checkSetValue, checkSetAll, checkSet, checkProcess, checkClock}
+use Rattle.model.specs.Events.{Event, create, operate, setValue, remove, signal, exit, query, setAll, readAll, clock, Result, checked, endedWith, slept, operated, call, event, doCreate, doOperate, doSetValue, doRemove, doSignal, doExit, doQuery, doSetAll, doReadAll, doClock}
 use Rattle.model.specs.Runs.{All, none, also}
 use Rattle.model.specs.Invariant.{Fits}
-use Rattle.model.specs.Positions.{Decides, WakingNamed, done, again, range, removed, signalled, CallNamed, Named, Names}
+use Rattle.model.specs.Positions.{Decides, WakingNamed, done, again, range, removed, signalled, expired, CallNamed, Named, Names}
 use Rattle.model.proofs.Lists.{all-append}
 use Rattle.model.proofs.JudgeLaws.{either}
-use Rattle.model.proofs.Rules.{tame}
+use Rattle.model.proofs.Rules.{KeptByFinish, tame}
+use Rattle.model.proofs.Calm.{treatFrom-keeps}
 
 -- ---- how far an array goes
 
@@ -185,33 +188,38 @@ checked-named : (code : ℕ) (s : State) (r : Result) (P : Position → Type 0) 
 checked-named zero s r P n h = h
 checked-named (suc code) s r P n h = n
 
+-- a call that would sleep names the operation that it is handed, whether it may wait or not
+slept-named : (s : State) (c : Sleeper) (at : Position) → slept s c at .answer .position ≡ at
+unfolding slept
+slept-named s c at = either (λ (r : Result). r .answer .position ≡ at) (atOnce (c .wait)) _ _ refl refl
+
 -- an operate names the operation that decides its call, and the one that decides
 operated-named : (wake : Waker) (s : State) (c : Sleeper) (x : Outcome) (copies : Copies) (k : ℕ)
     → operated wake s c x (deciderOf (look (s .table) c)) copies .answer .position ≡ At k → Decides (copiesOf (s .table) c) (operationsOf (c .array)) k
 unfolding operated
 operated-named wake s c Done copies k e = absurd (not-there e)
-operated-named wake s c Sleep copies k e = look-decides (s .table) c k e
+operated-named wake s c Sleep copies k e = look-decides (s .table) c k (sym (slept-named s c _) ∙ e)
 operated-named wake s c Again copies k e = look-decides (s .table) c k e
 operated-named wake s c Range copies k e = look-decides (s .table) c k e
 
 operated-decider : (wake : Waker) (s : State) (c : Sleeper) (x : Outcome) (at : Position) (copies : Copies) → x ≢ Done → operated wake s c x at copies .answer .position ≡ at
 unfolding operated
 operated-decider wake s c Done at copies n = absurd (n refl)
-operated-decider wake s c Sleep at copies n = refl
+operated-decider wake s c Sleep at copies n = slept-named s c at
 operated-decider wake s c Again at copies n = refl
 operated-decider wake s c Range at copies n = refl
 
-module _ (wake : Waker) (s : State) (p : ℕ) (i : ℤ) (bytes : List ℕ) where
+module _ (wake : Waker) (s : State) (p : ℕ) (i : ℤ) (wait : Wait) (bytes : List ℕ) where
   abbrev c : Sleeper
-  c = call p i bytes
+  c = call (s .time) p i wait bytes
 
-  call-decider : checkOperate s p i bytes ≡ 0 → (k : ℕ) → Decides (copiesOf (s .table) c) (operationsOf bytes) k → doOperate wake s p i bytes .answer .position ≡ At k
+  call-decider : checkOperate s p i bytes ≡ 0 → (k : ℕ) → Decides (copiesOf (s .table) c) (operationsOf bytes) k → doOperate wake s p i wait bytes .answer .position ≡ At k
   unfolding doOperate look
   call-decider z k d =
       rw z (operated-decider wake s c (look (s .table) c .outcome) (deciderOf (look (s .table) c)) (look (s .table) c .copies) (d .stops)
       ∙ decider (copiesOf (s .table) c) (operationsOf bytes) k d)
 
-  call-named : CallNamed s p i bytes (doOperate wake s p i bytes .answer)
+  call-named : CallNamed s p i wait bytes (doOperate wake s p i wait bytes .answer)
   unfolding doOperate
   call-named =
       record {
@@ -223,9 +231,9 @@ module _ (wake : Waker) (s : State) (p : ℕ) (i : ℤ) (bytes : List ℕ) where
       }
 
 answer-named : (engine : Engine) (s : State) (e : Event) → Named s e (event (waker engine) s e .answer)
-unfolding event doCreate doOperate doSetValue doRemove doSignal doExit doQuery doSetAll doReadAll
+unfolding event doCreate doOperate doSetValue doRemove doSignal doExit doQuery doSetAll doReadAll doClock
 answer-named engine s (create count read alter) = checked-named (checkCreate s count) s _ (λ at. at ≡ Nowhere) refl refl
-answer-named engine s (operate p i bytes) = call-named (waker engine) s p i bytes
+answer-named engine s (operate p i wait bytes) = call-named (waker engine) s p i wait bytes
 answer-named engine s (setValue i n v) = checked-named (checkSetValue s i n v) s _ (λ at. at ≡ Nowhere) refl refl
 answer-named engine s (remove i) = checked-named (checkSet s i) s _ (λ at. at ≡ Nowhere) refl refl
 answer-named engine s (signal p) = checked-named (checkProcess p) s _ (λ at. at ≡ Nowhere) refl refl
@@ -233,6 +241,7 @@ answer-named engine s (exit p) = checked-named (checkProcess p) s _ (λ at. at �
 answer-named engine s (query i n) = checked-named (checkNumber s i n) s _ (λ at. at ≡ Nowhere) refl refl
 answer-named engine s (setAll i bytes) = checked-named (checkSetAll s i bytes) s _ (λ at. at ≡ Nowhere) refl refl
 answer-named engine s (readAll i) = checked-named (checkSet s i) s _ (λ at. at ≡ Nowhere) refl refl
+answer-named engine s (clock now) = checked-named (checkClock s now) s _ (λ at. at ≡ Nowhere) refl refl
 
 -- ---- wakings
 
@@ -247,18 +256,13 @@ finished-named p Range i e = range p i
 abbrev AllNamed : World → Type 0
 AllNamed w = All WakingNamed (w .wakings)
 
-wake-named : (engine : Engine) (slot touched : ℕ) (w : World) (l : ℕ) → AllNamed w → AllNamed (waker engine slot touched w l .world)
+named-kept : (slot : ℕ) → KeptByFinish slot AllNamed
 unfolding finish
-wake-named engine slot touched w l =
-    tame engine .keeps slot touched w l AllNamed
-    (λ w i h lt mi f. all-append (w .wakings) (_ ∷ []) h (also (finished-named (getD (w .queue) i noSleeper .process) (look (w .table) (getD (w .queue) i noSleeper) .outcome) _ f) none))
+named-kept slot w i h lt mi f =
+    all-append (w .wakings) (_ ∷ []) h (also (finished-named (getD (w .queue) i noSleeper .process) (look (w .table) (getD (w .queue) i noSleeper) .outcome) _ f) none)
 
-treat-named : (engine : Engine) (sets : List Set) (slot : ℕ) (touches : List ℕ) (e : Ended) → AllNamed (e .world) → AllNamed (treatFrom (waker engine) sets slot touches e .world)
-unfolding treatFrom treat
-treat-named engine sets slot [] e h = h
-treat-named engine sets slot (touched ∷ more) e h =
-    treat-named engine sets (slot + 1) more (treat (waker engine) sets slot touched e)
-    (either (λ (x : Ended). AllNamed (x .world)) (live sets slot) _ _ (wake-named engine slot touched (e .world) (e .looks) h) h)
+wake-named : (engine : Engine) (slot touched : ℕ) (w : World) (l : ℕ) → AllNamed w → AllNamed (waker engine slot touched w l .world)
+wake-named engine slot touched w l = tame engine .keeps slot touched w l AllNamed (named-kept slot)
 
 ended-named : (code : ℤ) (test : Sleeper → Bool) (q : List Sleeper) → ((p : ℕ) → WakingNamed (waking p code Nowhere)) → All WakingNamed (endedWith code test q)
 unfolding endedWith
@@ -270,23 +274,24 @@ checked-wakings zero s r h = h
 checked-wakings (suc code) s r h = none
 
 operated-wakings : (engine : Engine) (s : State) (c : Sleeper) (x : Outcome) (at : Position) (copies : Copies) → All WakingNamed (operated (waker engine) s c x at copies .wakings)
-unfolding operated
+unfolding operated slept
 operated-wakings engine s c Done at copies = wake-named engine (c .slot) _ _ 0 none
-operated-wakings engine s c Sleep at copies = none
+operated-wakings engine s c Sleep at copies = either (λ (r : Result). All WakingNamed (r .wakings)) (atOnce (c .wait)) _ _ none none
 operated-wakings engine s c Again at copies = none
 operated-wakings engine s c Range at copies = none
 
 wakings-named : (engine : Engine) (s : State) (e : Event) → All WakingNamed (event (waker engine) s e .wakings)
-unfolding event doCreate doOperate doSetValue doRemove doSignal doExit doQuery doSetAll doReadAll
+unfolding event doCreate doOperate doSetValue doRemove doSignal doExit doQuery doSetAll doReadAll doClock
 wakings-named engine s (create count read alter) = checked-wakings (checkCreate s count) s _ none
-wakings-named engine s (operate p i bytes) = checked-wakings (checkOperate s p i bytes) s _ (operated-wakings engine s (call p i bytes) _ _ _)
+wakings-named engine s (operate p i wait bytes) = checked-wakings (checkOperate s p i bytes) s _ (operated-wakings engine s (call (s .time) p i wait bytes) _ _ _)
 wakings-named engine s (setValue i n v) = checked-wakings (checkSetValue s i n v) s _ (wake-named engine (slotOf i) _ _ 0 none)
 wakings-named engine s (remove i) = checked-wakings (checkSet s i) s _ (ended-named (pos 43) _ (s .queue) removed)
 wakings-named engine s (signal p) = checked-wakings (checkProcess p) s _ (ended-named (pos 4) _ (s .queue) signalled)
-wakings-named engine s (exit p) = checked-wakings (checkProcess p) s _ (treat-named engine (s .sets) 0 _ _ none)
+wakings-named engine s (exit p) = checked-wakings (checkProcess p) s _ (treatFrom-keeps engine (s .sets) AllNamed named-kept 0 _ _ none)
 wakings-named engine s (query i n) = checked-wakings (checkNumber s i n) s _ none
 wakings-named engine s (setAll i bytes) = checked-wakings (checkSetAll s i bytes) s _ (wake-named engine (slotOf i) _ _ 0 none)
 wakings-named engine s (readAll i) = checked-wakings (checkSet s i) s _ none
+wakings-named engine s (clock now) = checked-wakings (checkClock s now) s _ (ended-named (pos 11) _ (s .queue) expired)
 
 -- in any state, in either engine
 pub event-names : (engine : Engine) (s : State) (e : Event) → Names s e (event (waker engine) s e)

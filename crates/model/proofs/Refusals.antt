@@ -12,9 +12,11 @@ use Rattle.model.specs.declared.Engine.{Engine}
 use Rattle.model.specs.State.{State, Sleeper}
 use Rattle.model.specs.Judge.{codeOf}
 use Rattle.model.specs.Waking.{Waker, waker}
-use Rattle.model.specs.Checks.{checkCreate, checkOperate, checkNumber, checkSetValue, checkSetAll, checkSet, checkProcess}
-use Rattle.model.specs.Events.{Event, create, operate, setValue, remove, signal, exit, query, setAll, readAll, Result, refusedAt, checked, operated, event, doCreate, doOperate, doSetValue, doRemove, doSignal, doExit, doQuery, doSetAll, doReadAll}
+use Rattle.model.specs.Clock.{atOnce}
+use Rattle.model.specs.Checks.{checkCreate, checkOperate, checkNumber, checkSetValue, checkSetAll, checkSet, checkProcess, checkClock}
+use Rattle.model.specs.Events.{Event, create, operate, setValue, remove, signal, exit, query, setAll, readAll, clock, Result, refusedAt, checked, slept, operated, event, doCreate, doOperate, doSetValue, doRemove, doSignal, doExit, doQuery, doSetAll, doReadAll, doClock}
 use Rattle.model.specs.Runs.{RefusedWhole, Refuses}
+use Rattle.model.proofs.JudgeLaws.{either}
 
 -- the code of a refusal, and the operation that it names, tell all of it
 same-code : (s : State) (a b : ℕ) (at : Position) → pos a ≡ pos b → refusedAt s a at ≡ refusedAt s b at
@@ -29,18 +31,24 @@ by-check : (code : ℕ) (s : State) (r : Result) → Refuses s r → Refuses s (
 by-check zero s r h = h
 by-check (suc n) s r h = λ code e. same-code s (suc n) (suc code) Nowhere e
 
+-- a call that would sleep is refused if it may not wait
+slept-refuses : (s : State) (c : Sleeper) (at : Position) → Refuses s (slept s c at)
+unfolding slept codeOf
+slept-refuses s c at =
+    either (Refuses s) (atOnce (c .wait)) _ _ (λ code e. same-code s 11 (suc code) at e) (λ code e. let n : _≡_ {A = ℕ} 0 1 = cc in absurd (omega arith))
+
 operated-refuses : (wake : Waker) (s : State) (c : Sleeper) (x : Outcome) (at : Position) (copies : Copies) → Refuses s (operated wake s c x at copies)
-unfolding operated codeOf
+unfolding operated
 operated-refuses wake s c Done at copies = done _ refl
-operated-refuses wake s c Sleep at copies = λ code e. let n : _≡_ {A = ℕ} 0 1 = cc in absurd (omega arith)
+operated-refuses wake s c Sleep at copies = slept-refuses s c at
 operated-refuses wake s c Again at copies = λ code e. same-code s 11 (suc code) at e
 operated-refuses wake s c Range at copies = λ code e. same-code s 34 (suc code) at e
 
 -- Demand 1.
 pub refused-whole : (engine : Engine) (s : State) (e : Event) → RefusedWhole engine s e
-unfolding event doCreate doOperate doSetValue doRemove doSignal doExit doQuery doSetAll doReadAll
+unfolding event doCreate doOperate doSetValue doRemove doSignal doExit doQuery doSetAll doReadAll doClock
 refused-whole engine s (create count read alter) = by-check (checkCreate s count) s _ (done _ refl)
-refused-whole engine s (operate p i bytes) = by-check (checkOperate s p i bytes) s _ (operated-refuses (waker engine) s _ _ _ _)
+refused-whole engine s (operate p i wait bytes) = by-check (checkOperate s p i bytes) s _ (operated-refuses (waker engine) s _ _ _ _)
 refused-whole engine s (setValue i n v) = by-check (checkSetValue s i n v) s _ (done _ refl)
 refused-whole engine s (remove i) = by-check (checkSet s i) s _ (done _ refl)
 refused-whole engine s (signal p) = by-check (checkProcess p) s _ (done _ refl)
@@ -48,3 +56,4 @@ refused-whole engine s (exit p) = by-check (checkProcess p) s _ (done _ refl)
 refused-whole engine s (query i n) = by-check (checkNumber s i n) s _ (done _ refl)
 refused-whole engine s (setAll i bytes) = by-check (checkSetAll s i bytes) s _ (done _ refl)
 refused-whole engine s (readAll i) = by-check (checkSet s i) s _ (done _ refl)
+refused-whole engine s (clock now) = by-check (checkClock s now) s _ (done _ refl)

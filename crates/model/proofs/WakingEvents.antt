@@ -5,7 +5,7 @@ use native.Mathlib.Decide.{decLt}
 use mathlib.Core.Path.{_≡_, refl, ap}
 use mathlib.Core.Logic.{_≢_, _⊎_, inl, inr}
 use mathlib.Core.Bool.{Bool, true, false, cond}
-use mathlib.Core.List.{List, [], _∷_}
+use mathlib.Core.List.{List, [], _∷_, _++_}
 use lib.ListN.{length, getD}
 use lib.IntN.{ℤ, natAbs}
 use borrow.Author.Tests.{ltb-false, eqb-false, not-true}
@@ -16,18 +16,20 @@ use Rattle.model.specs.declared.Outcome.the-variants.{Done, Sleep, Again
 use Rattle.model.specs.declared.Position.{Position}
 use Rattle.model.specs.declared.Copies.{Copies}
 use Rattle.model.specs.declared.Judged.{Judged}
+use Rattle.model.specs.declared.Wait.{Wait}
 use Rattle.model.specs.declared.Engine.the-variants.{Plain, Quick}
 use Rattle.model.specs.Limits.{slots, semaphores, processes}
 use Rattle.model.specs.State.{Table, Sleeper, State}
 use Rattle.model.specs.Operation.{operationsOf, hasBit}
-use Rattle.model.specs.Judge.{deciderOf, finishes}
+use Rattle.model.specs.Judge.{codeOf, deciderOf, finishes}
 use Rattle.model.specs.Look.{look, applied, valuesOf}
 use Rattle.model.specs.Marks.{mine, named, differing, everyNumber}
 use Rattle.model.specs.Waking.{World, Ended, couldFinish, waker}
+use Rattle.model.specs.Clock.{atOnce}
 use Rattle.model.specs.Values.{valuesIn, held}
 use Rattle.model.specs.Checks.{live, slotOf, checkOperate, checkSetValue, checkSetAll, checkProcess}
-use Rattle.model.specs.Events.{wokenAs, world, operated, call, doOperate, assigned, doSetValue, assignedAll, doSetAll, exited, keep, treat, treatFrom, touchedFrom, doExit, notOf}
-use Rattle.model.specs.Runs.{All, none, also}
+use Rattle.model.specs.Events.{Result, answerAt, refusedAt, wokenAs, world, slept, operated, call, doOperate, assigned, doSetValue, assignedAll, doSetAll, exited, keep, treat, treatFrom, touchedFrom, doExit, notOf}
+use Rattle.model.specs.Runs.{All, none, also, InTime}
 use Rattle.model.proofs.Lists.{all-map, all-zip, all-zip3, all-append}
 use Rattle.model.specs.Invariant.{Good, Clean, Fits, Other, Invariant, countAt}
 use Rattle.model.proofs.MarkLaws.{untouched, every-bit}
@@ -37,9 +39,10 @@ use Rattle.model.proofs.QueueLaws.{few, distinct-snoc, keep-test}
 use Rattle.model.proofs.TableLaws.{assigned-good, assigned-stuck, unnamed-other, assignedAll-good, assignedAll-stuck, exited-good, exited-stuck}
 use Rattle.model.proofs.CleanLaws.{looked-clean, assigned-clean, assignedAll-clean, exited-clean, wake-clean}
 use Rattle.model.proofs.CheckLaws.{alive, at-first, Operable, operate-passes, Assignable, setValue-passes, AllAssignable, setAll-passes, process-passes}
+use Rattle.model.proofs.ClockLaws.{begun-now}
 use Rattle.model.proofs.Rules.{tame}
 use Rattle.model.specs.Invariant.{Calm}
-use Rattle.model.proofs.Calm.{wake-calm, treatFrom-looked, looks-36, fromSlot}
+use Rattle.model.proofs.Calm.{wake-calm, treatFrom-keeps, Asleep, asleep-kept, treatFrom-looked, looks-36, fromSlot}
 use Rattle.model.proofs.Agree.{slot-mine, slot-other, Rests, Aside, WakersAgree, OthersStuck, wake-aside, wakers-agree}
 use Rattle.model.proofs.EventLaws.{Agrees, quiet, checked-agrees, woken-agrees, keep-kept}
 
@@ -64,6 +67,7 @@ treated s slot touched t i g clean aside ready =
     (omega (arith, tame Plain .looked slot touched w 0 .most, looks-36 (mine slot) (s .queue) (few s i)))
     (wake-calm Quick slot touched w 0 calm) (wake-clean (i .counts) Quick slot touched w 0 calm clean)
     (all-zip (λ q r a. together slot Anyone _ q r a (λ e. tt)) (ag .rests) (wake-aside (i .counts) slot Quick Anyone touched w 0 calm aside))
+    (tame Quick .keeps slot touched w 0 (Asleep (InTime s)) (asleep-kept (InTime s) slot) (i .inTime))
   where
     w : World
     w = world t (s .queue)
@@ -76,10 +80,36 @@ treated s slot touched t i g clean aside ready =
 
 -- ---- operate
 
+-- a call that would sleep, and begins now
+slept-agrees : (s : State) (c : Sleeper) (at : Position) → Invariant s → Fits (s .sets) c → All (Other c) (s .queue) → couldFinish (s .table) c ≡ false → c .start ≡ s .time
+    → Agrees (slept s c at) (slept s c at)
+unfolding slept
+slept-agrees s c at i f others stuck begun = go (atOnce (c .wait)) refl
+  where
+    asleep : Result
+    asleep = record { answer = answerAt (codeOf Sleep) at; state = record { sets = s .sets; table = s .table; queue = s .queue ++ c ∷ []; time = s .time }; looks = 0; wakings = [] }
+
+    go : (b : Bool) → atOnce (c .wait) ≡ b → Agrees (cond b (refusedAt s 11 at) asleep) (cond b (refusedAt s 11 at) asleep)
+    go true e = quiet (refusedAt s 11 at) refl i
+    go false e =
+        quiet asleep refl
+        (record {
+          sets = i .sets;
+          counts = i .counts;
+          vacant = i .vacant;
+          good = i .good;
+          clean = i .clean;
+          fits = all-append (s .queue) (c ∷ []) (i .fits) (also f none);
+          distinct = distinct-snoc (s .queue) c (i .distinct) others;
+          stuck = all-append (s .queue) (c ∷ []) (i .stuck) (also stuck none);
+          time = i .time;
+          inTime = all-append (s .queue) (c ∷ []) (i .inTime) (also (rw begun (begun-now (s .time) (c .wait) e)) none);
+        })
+
 operated-agrees : (s : State) (c : Sleeper) (x : Outcome) (at : Position) (copies : Copies) → Invariant s → Fits (s .sets) c → All (Other c) (s .queue) → Fine copies
-    → Clean (s .sets) (applied (s .table) c copies) → look (s .table) c .outcome ≡ x → Agrees (operated (waker Quick) s c x at copies) (operated (waker Plain) s c x at copies)
+    → Clean (s .sets) (applied (s .table) c copies) → look (s .table) c .outcome ≡ x → c .start ≡ s .time → Agrees (operated (waker Quick) s c x at copies) (operated (waker Plain) s c x at copies)
 unfolding operated finishes
-operated-agrees s c Done at copies i f others k clean e =
+operated-agrees s c Done at copies i f others k clean e begun =
     treated s (c .slot) (differing 0 0 (valuesOf (s .table) (c .slot)) (valuesOf (applied (s .table) c copies) (c .slot))) t i g clean
     (all-zip3 aside (i .fits) others (i .stuck)) (all-zip3 ready (i .fits) others (i .stuck))
   where
@@ -99,35 +129,24 @@ operated-agrees s c Done at copies i f others k clean e =
         → hasBit (named q) (differing 0 0 (valuesOf (s .table) (c .slot)) (valuesOf t (c .slot))) ≡ false → couldFinish t q ≡ false
     ready q fq o st e un =
         unconcerned-stuck (i .counts) (s .table) t q (i .good) g fq (rw (slot-mine (c .slot) q e) un) (applied-undo (s .table) c q (i .good) f fq copies k o) st
-operated-agrees s c Sleep at copies i f others k clean e =
-    quiet _ refl
-    (record {
-      sets = i .sets;
-      counts = i .counts;
-      vacant = i .vacant;
-      good = i .good;
-      clean = i .clean;
-      fits = all-append (s .queue) (c ∷ []) (i .fits) (also f none);
-      distinct = distinct-snoc (s .queue) c (i .distinct) others;
-      stuck = all-append (s .queue) (c ∷ []) (i .stuck) (also (ap finishes e) none);
-    })
-operated-agrees s c Again at copies i f others k clean e = quiet _ refl i
-operated-agrees s c Range at copies i f others k clean e = quiet _ refl i
+operated-agrees s c Sleep at copies i f others k clean e begun = slept-agrees s c at i f others (ap finishes e) begun
+operated-agrees s c Again at copies i f others k clean e begun = quiet _ refl i
+operated-agrees s c Range at copies i f others k clean e begun = quiet _ refl i
 
-pub operate-agrees : (s : State) (p : ℕ) (i : ℤ) (bytes : List ℕ) → Invariant s → Agrees (doOperate (waker Quick) s p i bytes) (doOperate (waker Plain) s p i bytes)
+pub operate-agrees : (s : State) (p : ℕ) (i : ℤ) (wait : Wait) (bytes : List ℕ) → Invariant s → Agrees (doOperate (waker Quick) s p i wait bytes) (doOperate (waker Plain) s p i wait bytes)
 unfolding doOperate
-operate-agrees s p j bytes i = checked-agrees (checkOperate s p j bytes) s _ _ i (λ e. does (operate-passes s p j bytes e))
+operate-agrees s p j wait bytes i = checked-agrees (checkOperate s p j bytes) s _ _ i (λ e. does (operate-passes s p j wait bytes e))
   where
     c : Sleeper
-    c = call p j bytes
+    c = call (s .time) p j wait bytes
 
     judged : Judged
     judged = look (s .table) c
 
-    does : Operable s p j bytes → Agrees (operated (waker Quick) s c (judged .outcome) (deciderOf judged) (judged .copies)) (operated (waker Plain) s c (judged .outcome) (deciderOf judged) (judged .copies))
+    does : Operable s p j wait bytes → Agrees (operated (waker Quick) s c (judged .outcome) (deciderOf judged) (judged .copies)) (operated (waker Plain) s c (judged .outcome) (deciderOf judged) (judged .copies))
     does o =
         operated-agrees s c (judged .outcome) (deciderOf judged) (judged .copies) i (o .fits) (o .others) (look-fine (s .table) c (i .good) (o .fits))
-        (looked-clean (i .counts) (s .table) c (i .good) (o .fits) (i .clean)) refl
+        (looked-clean (i .counts) (s .table) c (i .good) (o .fits) (i .clean)) refl refl
 
 -- ---- set value
 
@@ -274,7 +293,7 @@ exit-agrees s p i = checked-agrees (checkProcess p) s _ _ i (λ e. does (process
     t = exited (s .table) p
 
     left : State
-    left = record { sets = s .sets; table = s .table; queue = keep (notOf p) (s .queue) }
+    left = record { sets = s .sets; table = s .table; queue = keep (notOf p) (s .queue); time = s .time }
 
     k : Invariant left
     k = keep-kept s (notOf p) i
@@ -310,3 +329,4 @@ exit-agrees s p i = checked-agrees (checkProcess p) s _ _ i (λ e. does (process
         woken-agrees s _ _ i (u .world) (u .looks)
         (omega (arith, treatFrom-looked (waker Plain) (tame Plain) (s .sets) 0 touches start .most, looks-36 (fromSlot 0) (left .queue) (few left k)))
         (u .calm) (u .clean) (all-zip (λ q f d. d (inl (omega (arith, f .slot, length-touched slots 0 (s .table) t)))) (u .calm .fits) (u .done))
+        (treatFrom-keeps Quick (s .sets) (Asleep (InTime s)) (asleep-kept (InTime s)) 0 touches start (k .inTime))

@@ -7,7 +7,7 @@ use lib.ListN.{length, getD}
 use lib.IntN.{ℤ, pos, negsuc}
 use Rattle.model.specs.declared.Set.{Set}
 use Rattle.model.specs.declared.Operation.{Operation}
-use Rattle.model.specs.Limits.{slots, semaphores, processes, operations, valueMax, operationBytes, valueBytes}
+use Rattle.model.specs.Limits.{slots, semaphores, processes, operations, valueMax, timeMax, operationBytes, valueBytes}
 use Rattle.model.specs.State.{State, Sleeper, noSet}
 use Rattle.model.specs.Operation.{operationsOf, hasBit, isZero}
 use Rattle.model.specs.Marks.{bitOf}
@@ -113,3 +113,7 @@ checkSet s i = check (not (namesSet (s .sets) i)) 22 0
 -- signal, exit
 unfoldable pub checkProcess : ℕ → ℕ
 checkProcess p = check (noProcess p) 3 0
+
+-- the clock: "A time below the last one told, or above 2^63-1, is refused with 22."
+unfoldable pub checkClock : State → ℕ → ℕ
+checkClock s now = check (ltb now (s .time) || ltb timeMax now) 22 0

@@ -1,4 +1,4 @@
--- The nine events. The engines differ in the waker only.
+-- The ten events. The engines differ in the waker only.
 use Prim.Native.Nat.{ℕ, zero, suc, _+_, _%_, _^_}
 use mathlib.Core.Bool.{Bool, true, false, cond, not}
 use mathlib.Core.List.{List, [], _∷_, _++_}
@@ -14,23 +14,25 @@ use Rattle.model.specs.declared.Position.{Position}
 use Rattle.model.specs.declared.Position.the-variants.{Nowhere}
 use Rattle.model.specs.declared.Copies.{Copies}
 use Rattle.model.specs.declared.Waking.{Waking}
+use Rattle.model.specs.declared.Wait.{Wait}
 use Rattle.model.specs.declared.Event as declared
-use Rattle.model.specs.declared.Event.the-variants.{Create, Operate, SetValue, Remove, Signal, Exit, Query, SetAll, ReadAll}
+use Rattle.model.specs.declared.Event.the-variants.{Create, Operate, SetValue, Remove, Signal, Exit, Query, SetAll, ReadAll, Clock}
 use Rattle.model.specs.Limits.{slots, processes, valueMax, allSemaphores}
 use Rattle.model.specs.State.{Table, withValues, withAdjustments, Sleeper, State, row, undoRow, clearRows, cleared, freeSet, noSet}
 use Rattle.model.specs.Judge.{codeOf, deciderOf}
 use Rattle.model.specs.Look.{look, applied, valuesOf}
 use Rattle.model.specs.Marks.{mine, differing, everyNumber, maskOf}
 use Rattle.model.specs.Waking.{World, Ended, Waker, waking}
+use Rattle.model.specs.Clock.{due, notDue, atOnce}
 use Rattle.model.specs.Values.{valuesIn, held}
-use Rattle.model.specs.Checks.{live, identifierOf, slotOf, freeSlot, checkCreate, checkOperate, checkNumber, checkSetValue, checkSetAll, checkSet, checkProcess}
+use Rattle.model.specs.Checks.{live, identifierOf, slotOf, freeSlot, checkCreate, checkOperate, checkNumber, checkSetValue, checkSetAll, checkSet, checkProcess, checkClock}
 use Rattle.model.specs.Counts.{forIncrease, forZero, countOf}
 
 pub data Event : Type 0 where
   -- count, read mask, alter mask
   create : ℕ → ℕ → ℕ → Event
-  -- process, identifier, the bytes of the operations
-  operate : ℕ → ℤ → List ℕ → Event
+  -- process, identifier, "a wait in milliseconds or none", the bytes of the operations
+  operate : ℕ → ℤ → Wait → List ℕ → Event
   -- identifier, number, value
   setValue : ℤ → ℕ → ℤ → Event
   -- identifier
@@ -45,11 +47,13 @@ pub data Event : Type 0 where
   setAll : ℤ → List ℕ → Event
   -- identifier
   readAll : ℤ → Event
+  -- "the present time"
+  clock : ℕ → Event
 
 -- the event that is meant by one that is handed in, with the bytes beside it: an operate's operations, or a setting's values
 abbrev pub eventOf : declared.Event → List ℕ → Event
 eventOf (Create count read alter) bytes = create count read alter
-eventOf (Operate process identifier) bytes = operate process identifier bytes
+eventOf (Operate process identifier wait) bytes = operate process identifier wait bytes
 eventOf (SetValue identifier number value) bytes = setValue identifier number value
 eventOf (Remove identifier) bytes = remove identifier
 eventOf (Signal process) bytes = signal process
@@ -57,6 +61,7 @@ eventOf (Exit process) bytes = exit process
 eventOf (Query identifier number) bytes = query identifier number
 eventOf (SetAll identifier) bytes = setAll identifier bytes
 eventOf (ReadAll identifier) bytes = readAll identifier
+eventOf (Clock time) bytes = clock time
 
 -- how an event is answered: a query with what it saw, a reading with what it read, any other with what it tells
 pub data Form : Type 0 where
@@ -66,7 +71,7 @@ pub data Form : Type 0 where
 
 abbrev pub formOf : Event → Form
 formOf (create count read alter) = asTold
-formOf (operate process identifier operations) = asTold
+formOf (operate process identifier wait operations) = asTold
 formOf (setValue identifier number value) = asTold
 formOf (remove identifier) = asTold
 formOf (signal process) = asTold
@@ -74,6 +79,7 @@ formOf (exit process) = asTold
 formOf (query identifier number) = asSeen
 formOf (setAll identifier values) = asTold
 formOf (readAll identifier) = asRead
+formOf (clock time) = asTold
 
 -- what a query shows beside the value; zeros in every other answer
 pub record Seen : Type 0 where
@@ -194,7 +200,7 @@ abbrev pub wokenAs : State → Ended → Result
 wokenAs s e =
     record {
       answer = answer (pos 0);
-      state = record { sets = s .sets; table = e .world .table; queue = e .world .queue };
+      state = record { sets = s .sets; table = e .world .table; queue = e .world .queue; time = s .time };
       looks = e .looks;
       wakings = e .world .wakings;
     }
@@ -215,29 +221,35 @@ doCreate s count read alter =
         sets = set (s .sets) slot (record { generation = getD (s .sets) slot noSet .generation; count = count; read = read; alter = alter });
         table = cleared (s .table) slot;
         queue = s .queue;
+        time = s .time;
       };
       looks = 0;
       wakings = [];
     })
 
--- an array that passed the checks, as it was judged: the copy becomes the state and the set is treated; "Sleeping changes
--- nothing but the queue"; or it is refused
+-- a call that would sleep: "a wait of 0 that would sleep is 11 at once"; else "Sleeping changes nothing but the queue"
+unfoldable pub slept : State → Sleeper → Position → Result
+slept s c position =
+    cond (atOnce (c .wait)) (refusedAt s 11 position)
+    (record { answer = answerAt (codeOf Sleep) position; state = record { sets = s .sets; table = s .table; queue = s .queue ++ c ∷ []; time = s .time }; looks = 0; wakings = [] })
+
+-- an array that passed the checks, as it was judged: the copy becomes the state and the set is treated; or it would sleep; or it is
+-- refused
 unfoldable pub operated : Waker → State → Sleeper → Outcome → Position → Copies → Result
 operated wake s c Done position copies =
     let t = applied (s .table) c copies in
     wokenAs s (wake (c .slot) (differing 0 0 (valuesOf (s .table) (c .slot)) (valuesOf t (c .slot))) (world t (s .queue)) 0)
-operated wake s c Sleep position copies =
-    record { answer = answerAt (codeOf Sleep) position; state = record { sets = s .sets; table = s .table; queue = s .queue ++ c ∷ [] }; looks = 0; wakings = [] }
+operated wake s c Sleep position copies = slept s c position
 operated wake s c Again position copies = refusedAt s 11 position
 operated wake s c Range position copies = refusedAt s 34 position
 
--- the call of a process: an array at the set that an identifier names
-abbrev pub call : ℕ → ℤ → List ℕ → Sleeper
-call p i bytes = record { process = p; slot = slotOf i; array = bytes }
+-- the call of a process: an array at the set that an identifier names, begun at a time, with its wait
+abbrev pub call : ℕ → ℕ → ℤ → Wait → List ℕ → Sleeper
+call time p i wait bytes = record { process = p; slot = slotOf i; array = bytes; start = time; wait = wait }
 
-unfoldable pub doOperate : Waker → State → ℕ → ℤ → List ℕ → Result
-doOperate wake s p i bytes =
-    let c = call p i bytes in
+unfoldable pub doOperate : Waker → State → ℕ → ℤ → Wait → List ℕ → Result
+doOperate wake s p i wait bytes =
+    let c = call (s .time) p i wait bytes in
     let j = look (s .table) c in
     checked (checkOperate s p i bytes) s (operated wake s c (j .outcome) (deciderOf j) (j .copies))
 
@@ -258,6 +270,7 @@ doRemove s i =
       sets = set (s .sets) slot (freeSet ((getD (s .sets) slot noSet .generation + 1) % 65536));
       table = cleared (s .table) slot;
       queue = keep (notMine slot) (s .queue);
+      time = s .time;
     })
     (endedWith (pos 43) (mine slot) (s .queue)))
 
@@ -266,8 +279,16 @@ unfoldable pub doSignal : State → ℕ → Result
 doSignal s p =
     checked (checkProcess p) s
     (doneWith
-    (record { sets = s .sets; table = s .table; queue = keep (notOf p) (s .queue) })
+    (record { sets = s .sets; table = s .table; queue = keep (notOf p) (s .queue); time = s .time })
     (endedWith (pos 4) (isOf p) (s .queue)))
+
+-- "A sleeper whose start plus wait is at or below the new time ends with 11, oldest first, as a listed waking"; "Expiry has no looks."
+unfoldable pub doClock : State → ℕ → Result
+doClock s now =
+    checked (checkClock s now) s
+    (doneWith
+    (record { sets = s .sets; table = s .table; queue = keep (notDue now) (s .queue); time = now })
+    (endedWith (pos 11) (due now) (s .queue)))
 
 -- a set is treated if it is live
 unfoldable pub treat : Waker → List Set → ℕ → ℕ → Ended → Ended
@@ -346,7 +367,7 @@ numbersOf (r ∷ rs) = r .value ∷ r .increase ∷ r .zero ∷ numbersOf rs
 
 unfoldable pub event : Waker → State → Event → Result
 event wake s (create count read alter) = doCreate s count read alter
-event wake s (operate p i bytes) = doOperate wake s p i bytes
+event wake s (operate p i wait bytes) = doOperate wake s p i wait bytes
 event wake s (setValue i n v) = doSetValue wake s i n v
 event wake s (remove i) = doRemove s i
 event wake s (signal p) = doSignal s p
@@ -354,3 +375,4 @@ event wake s (exit p) = doExit wake s p
 event wake s (query i n) = doQuery s i n
 event wake s (setAll i bytes) = doSetAll wake s i bytes
 event wake s (readAll i) = doReadAll s i
+event wake s (clock now) = doClock s now

@@ -7,10 +7,10 @@ use lib.ListN.{length, getD}
 use lib.IntN.{ℤ, pos, natAbs}
 use Rattle.model.specs.declared.Set.{Set}
 use Rattle.model.specs.declared.Operation.{Operation}
-use Rattle.model.specs.Limits.{slots, semaphores, processes, valueMax, operationBytes, arrayBytes, allSemaphores, allAdjustments}
+use Rattle.model.specs.Limits.{slots, semaphores, processes, valueMax, timeMax, operationBytes, arrayBytes, allSemaphores, allAdjustments}
 use Rattle.model.specs.State.{Table, Sleeper, State, row, undoRow, freeSet, noSet}
 use Rattle.model.specs.Operation.{operationsOf}
-use Rattle.model.specs.Runs.{All, Stuck}
+use Rattle.model.specs.Runs.{All, Stuck, InTime}
 use Rattle.model.specs.Waking.{World}
 
 -- an undo adjustment: -32,767 to 32,767
@@ -71,6 +71,8 @@ pub record Invariant (s : State) : Type 0 where
   pub fits : All (Fits (s .sets)) (s .queue)
   pub distinct : Distinct (s .queue)
   pub stuck : All (Stuck s) (s .queue)
+  pub time : s .time ≤ timeMax
+  pub inTime : All (InTime s) (s .queue)
 
 -- the same inside a waking: of the table, of the queue, and of those who were woken
 pub record Calm (sets : List Set) (w : World) : Type 0 where

@@ -6,6 +6,7 @@ pub mod Judge
 pub mod Look
 pub mod Marks
 pub mod Waking
+pub mod Clock
 pub mod Values
 pub mod Checks
 pub mod Counts

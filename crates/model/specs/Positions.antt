@@ -10,13 +10,14 @@ use Rattle.model.specs.declared.Outcome.the-variants.{Done}
 use Rattle.model.specs.declared.Position.the-variants.{Nowhere, At}
 use Rattle.model.specs.declared.Copies.{Copies}
 use Rattle.model.specs.declared.Waking.{Waking}
+use Rattle.model.specs.declared.Wait.{Wait}
 use Rattle.model.specs.State.{State}
 use Rattle.model.specs.Operation.{operationsOf}
 use Rattle.model.specs.Judge.{judge}
 use Rattle.model.specs.Look.{copiesOf}
 use Rattle.model.specs.Waking.{waking}
 use Rattle.model.specs.Checks.{checkOperate}
-use Rattle.model.specs.Events.{Event, create, operate, setValue, remove, signal, exit, query, setAll, readAll, Answer, Result, call}
+use Rattle.model.specs.Events.{Event, create, operate, setValue, remove, signal, exit, query, setAll, readAll, clock, Answer, Result, call}
 use Rattle.model.specs.Runs.{All}
 
 -- The operation at a position decides how an array is judged: the operations before it, judged alone on the same copies, are done;
@@ -27,24 +28,25 @@ pub record Decides (start : Copies) (os : List Operation) (i : ℕ) : Type 0 whe
   pub decides : judge start (take (suc i) os) .outcome ≡ judge start os .outcome
   pub stops : judge start os .outcome ≢ Done
 
--- "each waking with 11 or 34" names an operation; one with 0, 43 or 4 names none
+-- "each waking with 11 or 34" names an operation; one with 0, 43 or 4, and "an 11 by expiry", names none
 pub data WakingNamed : Waking → Type 0 where
   done : (p : ℕ) → WakingNamed (waking p (pos 0) Nowhere)
   again : (p k : ℕ) → WakingNamed (waking p (pos 11) (At k))
   range : (p k : ℕ) → WakingNamed (waking p (pos 34) (At k))
   removed : (p : ℕ) → WakingNamed (waking p (pos 43) Nowhere)
   signalled : (p : ℕ) → WakingNamed (waking p (pos 4) Nowhere)
+  expired : (p : ℕ) → WakingNamed (waking p (pos 11) Nowhere)
 
 -- The operation that an operate's answer names decides its call, on the state as it stood; and the one that decides is named, once
 -- the checks let the call through.
-pub record CallNamed (s : State) (p : ℕ) (i : ℤ) (bytes : List ℕ) (a : Answer) : Type 0 where
-  pub decides : (k : ℕ) → a .position ≡ At k → Decides (copiesOf (s .table) (call p i bytes)) (operationsOf bytes) k
-  pub decider : checkOperate s p i bytes ≡ 0 → (k : ℕ) → Decides (copiesOf (s .table) (call p i bytes)) (operationsOf bytes) k → a .position ≡ At k
+pub record CallNamed (s : State) (p : ℕ) (i : ℤ) (wait : Wait) (bytes : List ℕ) (a : Answer) : Type 0 where
+  pub decides : (k : ℕ) → a .position ≡ At k → Decides (copiesOf (s .table) (call (s .time) p i wait bytes)) (operationsOf bytes) k
+  pub decider : checkOperate s p i bytes ≡ 0 → (k : ℕ) → Decides (copiesOf (s .table) (call (s .time) p i wait bytes)) (operationsOf bytes) k → a .position ≡ At k
 
 -- No other event's answer names one.
 abbrev pub Named : State → Event → Answer → Type 0
 Named s (create count read alter) a = a .position ≡ Nowhere
-Named s (operate p i bytes) a = CallNamed s p i bytes a
+Named s (operate p i wait bytes) a = CallNamed s p i wait bytes a
 Named s (setValue i n v) a = a .position ≡ Nowhere
 Named s (remove i) a = a .position ≡ Nowhere
 Named s (signal p) a = a .position ≡ Nowhere
@@ -52,6 +54,7 @@ Named s (exit p) a = a .position ≡ Nowhere
 Named s (query i n) a = a .position ≡ Nowhere
 Named s (setAll i bytes) a = a .position ≡ Nowhere
 Named s (readAll i) a = a .position ≡ Nowhere
+Named s (clock now) a = a .position ≡ Nowhere
 
 -- what is claimed of one event
 pub record Names (s : State) (e : Event) (r : Result) : Type 0 where

@@ -8,6 +8,7 @@ use Rattle.model.specs.declared.Engine.{Engine}
 use Rattle.model.specs.declared.Engine.the-variants.{Plain, Quick}
 use Rattle.model.specs.State.{State, Sleeper, freshState}
 use Rattle.model.specs.Waking.{waker, couldFinish}
+use Rattle.model.specs.Clock.{due}
 use Rattle.model.specs.Events.{Event, Result, refusedAt, event}
 
 -- the results of a list of events, in order, and the state after it
@@ -50,6 +51,10 @@ pub record Alike (quick plain : Result) : Type 0 where
 abbrev pub Stuck : State → Sleeper → Type 0
 Stuck s q = couldFinish (s .table) q ≡ false
 
+-- nobody asleep is overdue: the sleeper's wait is not over at the time last told
+abbrev pub InTime : State → Sleeper → Type 0
+InTime s q = due (s .time) q ≡ false
+
 -- "A refused event (one that is 11 or 34 by judging too) returns its code, value 0 (in a query every other number 0 too), no
 -- looks and no wakings; the state is unchanged": a result whose code is above 0 is that refusal, with the operation that it names
 abbrev pub Refuses : State → Result → Type 0
@@ -64,3 +69,4 @@ pub record EnginesAgree (events : List Event) : Type 0 where
   pub alike : Pairwise Alike (run Quick freshState events .results) (run Plain freshState events .results)
   pub last : run Quick freshState events .last ≡ run Plain freshState events .last
   pub stuck : All (Stuck (run Quick freshState events .last)) (run Quick freshState events .last .queue)
+  pub inTime : All (InTime (run Quick freshState events .last)) (run Quick freshState events .last .queue)

@@ -9,9 +9,11 @@ use Rattle.model.specs.declared.Engine.{Engine}
 use Rattle.model.specs.declared.Engine.the-variants.{Plain, Quick}
 use Rattle.model.specs.declared.Position.the-variants.{Nowhere, At}
 use Rattle.model.specs.declared.Waking.{Waking}
+use Rattle.model.specs.declared.Wait.the-variants.{Endless, Milliseconds}
 use Rattle.model.specs.State.{State, freeSet, freshTable, freshState}
 use Rattle.model.specs.Waking.{waking}
-use Rattle.model.specs.Events.{Event, create, operate, setValue, remove, exit, query, setAll, readAll, Read, Answer, answerAt, answer, nothingSeen, Result}
+use Rattle.model.specs.Events as events
+use Rattle.model.specs.Events.{Event, create, setValue, remove, exit, query, setAll, readAll, Read, Answer, answerAt, answer, nothingSeen, Result}
 use Rattle.model.specs.Runs.{run}
 
 -- ---- operations and values
@@ -53,6 +55,16 @@ bits32 (negsuc n) = 4294967295 - n
 abbrev values : List ℤ → List ℕ
 values [] = []
 values (v ∷ vs) = bytes2 (bits32 v % 65536) ++ bytes2 (bits32 v / 65536) ++ values vs
+
+-- ---- calls
+
+-- an array of a process at a set, without a wait
+abbrev operate : ℕ → ℤ → List ℕ → Event
+operate process set operations = events.operate process set Endless operations
+
+-- .. that waits so many milliseconds at most
+abbrev within : ℕ → ℕ → ℤ → List ℕ → Event
+within wait process set operations = events.operate process set (Milliseconds wait) operations
 
 -- ---- rows
 
@@ -280,6 +292,7 @@ situation12b =
         sets = record { generation = 65535; count = 1; read = 255; alter = 255 } ∷ replicate 3 (freeSet 0);
         table = freshTable;
         queue = [];
+        time = 0;
       };
       steps = gives (remove (pos 262140)) done ∷ tells (create 1 255 255) 0 ∷ [];
     }

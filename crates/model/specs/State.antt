@@ -5,6 +5,8 @@ use lib.ListN.{replicate}
 use lib.Seq.{paste}
 use lib.IntN.{ℤ, pos}
 use Rattle.model.specs.declared.Set.{Set}
+use Rattle.model.specs.declared.Wait.{Wait}
+use Rattle.model.specs.declared.Wait.the-variants.{Endless}
 use Rattle.model.specs.Limits.{slots, semaphores, processes, allSemaphores, allAdjustments}
 
 -- The numbers of every semaphore: its value and its last process, and for each process an undo adjustment.
@@ -23,17 +25,21 @@ withLasts t lasts = record { values = t .values; lasts = lasts; adjustments = t 
 abbrev pub withAdjustments : Table → List ℤ → Table
 withAdjustments t adjustments = record { values = t .values; lasts = t .lasts; adjustments = adjustments }
 
--- A sleeping call: its process, the slot of its set, and the bytes of its array as they came.
+-- A sleeping call: its process, the slot of its set, the bytes of its array as they came, the time that was last told when it went
+-- to sleep, and its wait.
 pub record Sleeper : Type 0 where
   pub process : ℕ
   pub slot : ℕ
   pub array : List ℕ
+  pub start : ℕ
+  pub wait : Wait
 
--- "Sleepers stand in the order in which they went to sleep": the oldest is the first of the queue.
+-- "Sleepers stand in the order in which they went to sleep": the oldest is the first of the queue. The time is the one last told.
 pub record State : Type 0 where
   pub sets : List Set
   pub table : Table
   pub queue : List Sleeper
+  pub time : ℕ
 
 -- where the eight semaphores of a slot begin
 abbrev pub row : ℕ → ℕ
@@ -61,16 +67,16 @@ cleared t slot =
 abbrev pub freeSet : ℕ → Set
 freeSet generation = record { generation = generation; count = 0; read = 0; alter = 0 }
 
--- "a fresh host has all 256 adjustments at zero, four free slots with every number 0, and no sleepers"
+-- "a fresh host has all 256 adjustments at zero, four free slots with every number 0, and no sleepers"; "Time starts at 0."
 abbrev pub freshTable : Table
 freshTable = record { values = replicate allSemaphores 0; lasts = replicate allSemaphores 0; adjustments = replicate allAdjustments (pos 0) }
 
 abbrev pub freshState : State
-freshState = record { sets = replicate slots (freeSet 0); table = freshTable; queue = [] }
+freshState = record { sets = replicate slots (freeSet 0); table = freshTable; queue = []; time = 0 }
 
 -- what stands past the end of the sets, and of the queue
 abbrev pub noSet : Set
 noSet = freeSet 0
 
 abbrev pub noSleeper : Sleeper
-noSleeper = record { process = 0; slot = 0; array = [] }
+noSleeper = record { process = 0; slot = 0; array = []; start = 0; wait = Endless }

@@ -15,6 +15,9 @@ pub const OPERATIONS: usize = 32;
 
 pub const VALUE_MAX: u16 = 32767;
 
+// The latest time that can be told, in milliseconds.
+pub const TIME_MAX: u64 = 9223372036854775807;
+
 // The bytes of one operation, and of the longest array.
 pub const OPERATION_BYTES: usize = 6;
 
@@ -92,6 +95,12 @@ pub struct Judged {
     pub copies: Copies,
 }
 
+// How long a call may sleep: without end, or so many milliseconds.
+pub enum Wait {
+    Endless,
+    Milliseconds(u32),
+}
+
 // Which waking rule an event goes by.
 pub enum Engine {
     Plain,
@@ -120,6 +129,7 @@ pub enum Event {
     Operate {
         process: u8,
         identifier: i32,
+        wait: Wait,
     },
     SetValue {
         identifier: i32,
@@ -144,6 +154,9 @@ pub enum Event {
     },
     ReadAll {
         identifier: i32,
+    },
+    Clock {
+        time: u64,
     },
 }
 
