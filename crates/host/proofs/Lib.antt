@@ -1,9 +1,10 @@
 -- Laws of the row.
+pub mod RowLaws
 pub mod Numbers
 pub mod PartLaws
-pub mod RowLaws
 pub mod SleeperLaws
 pub mod Whole
+pub mod WaitLaws
 pub mod ProcessLaws
 pub mod QueueRows
 pub mod SetRows

@@ -1,13 +1,14 @@
 -- Numbers in a row of bytes: reading one, writing one, and what a write leaves alone.
 use Prim.Native.Nat.{ℕ, zero, suc, _+_, _*_, _/_, _%_, _^_, _≤_, _<_}
-use native.Mathlib.Nat.{not-suc-le-zero, le-of-suc-le-suc, mul-zero, mul-suc, add-zero, pow-suc}
+use native.Mathlib.Nat.{not-suc-le-zero, le-of-suc-le-suc, mul-zero, mul-suc, mul-assoc, add-zero, pow-suc, pow-succ', div-add-mod, mod-lt, one-le-pow}
 use native.Mathlib.Numerals.{add-one}
 use native.Mathlib.Omega.{arith}
 use mathlib.Core.Path.{_≡_, refl, sym, ap, ap₂, subst, _∙_}
-use mathlib.Core.List.{List, [], _∷_}
+use mathlib.Core.List.{List, [], _∷_, _++_}
 use lib.ListN.{length, getD, set, length-set, List·getD-eq-default}
 use lib.Seq.{getD-set-other, getD-set-same, sets, length-sets}
 use Rattle.host.specs.Parts.{numberAt, bytesOf, numbersFrom}
+use Rattle.host.proofs.RowLaws.{sets-append}
 
 -- two rows of bytes agree from a place to another
 abbrev pub Same : ℕ → ℕ → List ℕ → List ℕ → Type 0
@@ -41,6 +42,42 @@ unfolding numberAt
 number-same zero h h′ k s = refl
 number-same (suc w) h h′ k s =
     ap₂ (λ (x y : ℕ). x + 256 * y) (s k (omega arith) (omega arith)) (number-same w h h′ (k + 1) (λ j a b. s j (omega arith) (omega arith)))
+
+-- a number of a + b bytes is one of a bytes, and behind it one of b: as it is read, in its bytes, and as it is written
+further : (a n : ℕ) → 256 ^ suc a * n ≡ 256 * (256 ^ a * n)
+further a n = rw pow-succ' (mul-assoc 256 (256 ^ a) n)
+
+pub number-joined : (a b : ℕ) (h : List ℕ) (k : ℕ) → numberAt (a + b) h k ≡ numberAt a h k + 256 ^ a * numberAt b h (k + a)
+unfolding numberAt
+number-joined zero b h k =
+    let e : 0 + b ≡ b = omega arith in
+    let z : k + 0 ≡ k = omega arith in
+    rw (e, z) (omega arith)
+number-joined (suc a) b h k =
+    let e : suc a + b ≡ suc (a + b) = omega arith in
+    let z : k + suc a ≡ k + 1 + a = omega arith in
+    rw (e, z) (omega (arith, further a (numberAt b h (k + 1 + a)), number-joined a b h (k + 1)))
+
+bytes-joined : (a b low high : ℕ) → low < 256 ^ a → bytesOf (a + b) (low + 256 ^ a * high) ≡ bytesOf a low ++ bytesOf b high
+unfolding bytesOf
+bytes-joined zero b low high l =
+    let e : 0 + b ≡ b = omega arith in
+    let z : low + 256 ^ 0 * high ≡ high = omega arith in
+    rw (e, z)
+bytes-joined (suc a) b low high l =
+    let e : suc a + b ≡ suc (a + b) = omega arith in
+    let first : (low + 256 ^ suc a * high) % 256 ≡ low % 256 = omega (arith, further a high) in
+    let more : (low + 256 ^ suc a * high) / 256 ≡ low / 256 + 256 ^ a * high = omega (arith, further a high) in
+    rw (e, first, more) (ap (λ (r : List ℕ). low % 256 ∷ r) (bytes-joined a b (low / 256) high (omega (arith, l, pow-suc 256 a))))
+
+pub sets-joined : (a b : ℕ) (h : List ℕ) (k x : ℕ) → sets (sets h k (bytesOf a (x % 256 ^ a))) (k + a) (bytesOf b (x / 256 ^ a)) ≡ sets h k (bytesOf (a + b) x)
+sets-joined a b h k x =
+    let low = bytesOf a (x % 256 ^ a) in
+    let high = bytesOf b (x / 256 ^ a) in
+    let whole : x % 256 ^ a + 256 ^ a * (x / 256 ^ a) ≡ x = omega (arith, div-add-mod x (256 ^ a)) in
+    ap (λ (n : ℕ). sets (sets h k low) (k + n) high) (sym (length-bytes a (x % 256 ^ a)))
+    ∙ sym (sets-append low high h k)
+    ∙ ap (λ (l : List ℕ). sets h k l) (sym (bytes-joined a b (x % 256 ^ a) (x / 256 ^ a) (mod-lt x (one-le-pow a 256 (omega arith)))) ∙ ap (bytesOf (a + b)) whole)
 
 -- stores leave what lies below and above them
 sets-below : (vs l : List ℕ) (i j : ℕ) → j < i → getD (sets l i vs) j 0 ≡ getD l j 0

@@ -14,11 +14,13 @@ use Rattle.model.specs.Runs.{All}
 use Rattle.model.specs.Invariant.{Fits, Distinct}
 use Rattle.model.proofs.Lists.{all-map, all-at, all-without, length-without}
 use Rattle.model.proofs.QueueLaws.{distinct-without, others-without, fits-few}
-use Rattle.host.specs.Parts.{asleep, order, sleepsAt, sizes, arrays, Row, with, put}
-use Rattle.host.specs.Holding.{byProcess, blocksFrom, orderOf, theSlot, theSize, Kept, kept, withQueue, entry, arrayIn, sleeperIn, queueIn}
+use Rattle.host.specs.Parts.{asleep, order, sleepsAt, sizes, starts, waits, arrays, Row, with, put}
+use Rattle.host.specs.Holding.{byProcess, blocksFrom, orderOf, theSlot, theSize, theStart, theWait, Kept, kept, withQueue, entry, arrayIn, sleeperIn, queueIn}
+use Rattle.host.specs.Waits.{waitOf}
 use Rattle.host.specs.Queue.{Room, Queued}
 use Rattle.host.proofs.PartLaws.{by-groups}
 use Rattle.host.proofs.RowLaws.{sets-paste}
+use Rattle.host.proofs.WaitLaws.{wait-back}
 use Rattle.host.proofs.ProcessLaws.{Awake, of-awake, of-none, of-first, of-before, of-without, of-own, of-process, by-changed, length-arrays, arrays-cleared, arrays-stored, array-read, arrayOf}
 
 pub entry-is : (p : ℕ) → 1 ≤ p → entry p ≡ p - 1
@@ -143,6 +145,12 @@ module _ (q : List Sleeper) (f : Queued q) (i : ℕ) (h : i < length q) where
     pub size-read : getD (withQueue r q sizes) (entry (getD q i noSleeper .process)) 0 ≡ length (getD q i noSleeper .array)
     size-read = kept-read theSize
 
+    pub start-read : getD (withQueue r q starts) (entry (getD q i noSleeper .process)) 0 ≡ getD q i noSleeper .start
+    start-read = kept-read theStart
+
+    pub wait-read : waitOf (getD (withQueue r q waits) (entry (getD q i noSleeper .process)) 0) ≡ getD q i noSleeper .wait
+    wait-read = ap waitOf (kept-read theWait) ∙ wait-back (sleeper .wait)
+
     pub array-read-back : arrayIn (withQueue r q) (getD q i noSleeper .process) ≡ getD q i noSleeper .array
     unfolding arrayIn
     array-read-back =
@@ -152,7 +160,7 @@ module _ (q : List Sleeper) (f : Queued q) (i : ℕ) (h : i < length q) where
         (array-read q (sleeper .process) (room-at .process) (room-at .last) short ∙ array-own)
 
     pub sleeper-read : sleeperIn (withQueue r q) (getD q i noSleeper .process) ≡ getD q i noSleeper
-    sleeper-read = rw array-read-back (simp kept-read)
+    sleeper-read = rw (array-read-back, wait-read) (simp kept-read)
 
   -- .. once it is taken out
   others : Awake (getD q i noSleeper .process) (without q i)
@@ -184,7 +192,7 @@ module _ (q : List Sleeper) (f : Queued q) (i : ℕ) (h : i < length q) where
 
   pub taken : (r : Row) → emptied (withQueue r q) ≡ withQueue r (without q i)
   taken r =
-      by-groups _ _ refl refl
+      by-groups _ _ refl refl refl
       (queue-parts
       (ap (λ (n : ℕ). n ∷ []) (omega (arith, length-without q i h)))
       (order-without q i h (f .few))
@@ -216,7 +224,7 @@ module _ (q : List Sleeper) (f : Queued q) (s : Sleeper) (a : Awake (s .process)
 
   pub joined : (r : Row) → joinedBy (withQueue r q) ≡ withQueue r (q ++ s ∷ [])
   joined r =
-      by-groups _ _ refl refl
+      by-groups _ _ refl refl refl
       (queue-parts
       (ap (λ (n : ℕ). n ∷ []) (sym (length-append q (s ∷ []))))
       (order-joined q s l)

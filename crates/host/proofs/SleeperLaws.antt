@@ -10,7 +10,7 @@ use mathlib.Core.List.{List, [], _∷_}
 use borrow.Author.Tests.{ltb-false, leb-false, eqb-false, le-ltb, lt-leb, ne-eqb}
 use lib.Dec.{eqb, ltb, leb}
 use lib.ListN.{length, getD, set, take, drop, replicate, length-take, length-set, drop-of-length-le}
-use lib.Seq.{sets, take-take, take-nil, drop-drop, drop-cons, take-all}
+use lib.Seq.{sets, length-sets, take-take, take-nil, drop-drop, drop-cons, take-all}
 use Rattle.model.specs.Limits.{slots, semaphores, processes, arrayBytes, allAdjustments}
 use Rattle.model.specs.State.{undoRow}
 use Rattle.model.specs.Checks.{noProcess}
@@ -47,7 +47,13 @@ pub record Says (h : List ℕ) (r : Row) : Type 0 where
 pub says : (h : List ℕ) → length h ≡ hostBytes → Says h (rowIn h)
 says h long = record { long = long; same = refl }
 
--- one more is written
+-- one more is written, of any width
+pub says-number : {h h′ : List ℕ} {r : Row} → Says h r → (p : Part) (i x : ℕ) → i < count p → x < 256 ^ width p → h′ ≡ sets h (spot p i) (bytesOf (width p) x) → Says h′ (put r p i x)
+says-number {h} k p i x l m e =
+    let b = bytesOf (width p) x in
+    record { long = ap length e ∙ length-sets h (spot p i) b ∙ k .long; same = ap rowIn e ∙ write-part p i x h (k .long) l m ∙ ap (λ (y : Row). put y p i x) (k .same) }
+
+-- .. that is a byte
 pub says-byte : {h : List ℕ} {r : Row} → Says h r → (p : Part) (i x : ℕ) → width p ≡ 1 → i < count p → x < 256 → Says (set h (place p .at + i) x) (put r p i x)
 says-byte {h} k p i x thin l m =
     record { long = length-set h (place p .at + i) x ∙ k .long; same = byte-write p i h thin x (k .long) l m ∙ ap (λ (y : Row). put y p i x) (k .same) }

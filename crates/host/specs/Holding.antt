@@ -11,7 +11,8 @@ use Rattle.model.specs.Limits.{slots, processes, arrayBytes}
 use Rattle.model.specs.State.{Table, Sleeper, State}
 use Rattle.model.specs.Marks.{named}
 use Rattle.model.specs.Runs.{Reached}
-use Rattle.host.specs.Parts.{Part, generations, counts, readers, alterers, values, lasts, asleep, order, sleepsAt, sizes, names, arrays, Row, rowIn, with, put}
+use Rattle.host.specs.Parts.{Part, generations, counts, readers, alterers, values, lasts, clock, asleep, order, sleepsAt, sizes, names, starts, waits, arrays, Row, rowIn, with, put}
+use Rattle.host.specs.Waits.{waitNumber, waitOf}
 
 -- ---- from a state to a row
 
@@ -43,14 +44,26 @@ theSlot s = s .slot
 abbrev pub theSize : Sleeper → ℕ
 theSize s = length (s .array)
 
+abbrev pub theStart : Sleeper → ℕ
+theStart s = s .start
+
+abbrev pub theWait : Sleeper → ℕ
+theWait s = waitNumber (s .wait)
+
 -- a part by process, and the number of a sleeper that stands there
 pub record Kept : Type 0 where
   pub part : Part
   pub of : Sleeper → ℕ
 
--- the slot, the bytes of the array, and the mask of the semaphores that the array names
+-- the slot, the bytes of the array, the mask of the semaphores that the array names, the start and the wait
 abbrev pub kept : List Kept
-kept = record { part = sleepsAt; of = theSlot } ∷ record { part = sizes; of = theSize } ∷ record { part = names; of = named } ∷ []
+kept =
+    record { part = sleepsAt; of = theSlot }
+    ∷ record { part = sizes; of = theSize }
+    ∷ record { part = names; of = named }
+    ∷ record { part = starts; of = theStart }
+    ∷ record { part = waits; of = theWait }
+    ∷ []
 
 -- a row with these numbers of a queue's sleepers
 abbrev pub withKept : List Kept → Row → List Sleeper → Row
@@ -60,6 +73,10 @@ withKept (k ∷ ks) r q = with (withKept ks r q) (k .part) (byProcess (k .of) pr
 -- .. with another queue
 abbrev pub withQueue : Row → List Sleeper → Row
 withQueue r q = with (with (with (withKept kept r q) asleep (length q ∷ [])) order (orderOf q)) arrays (blocksFrom processes 1 q)
+
+-- .. with another time
+abbrev pub withTime : Row → ℕ → Row
+withTime r time = with r clock (time ∷ [])
 
 -- .. with other sets, and with other values and last processes
 abbrev pub withSets : Row → List Set → Row
@@ -76,9 +93,10 @@ pub record Host : Type 0 where
 
 -- how it holds a state
 abbrev pub hostOf : State → Host
-hostOf s = record { row = withQueue (withTable (withSets (λ (p : Part). []) (s .sets)) (s .table)) (s .queue); adjustments = s .table .adjustments }
+hostOf s =
+    record { row = withQueue (withTable (withTime (withSets (λ (p : Part). []) (s .sets)) (s .time)) (s .table)) (s .queue); adjustments = s .table .adjustments }
 
--- a host with another table and queue: its sets stay
+-- a host with another table and queue: its sets and its time stay
 abbrev pub hostWith : Host → Table → List Sleeper → Host
 hostWith x t q = record { row = withQueue (withTable (x .row) t) q; adjustments = t .adjustments }
 
@@ -105,9 +123,12 @@ abbrev pub entry : ℕ → ℕ
 entry zero = processes
 entry (suc p) = p
 
--- what a process sleeps with, replaced but for the array
+-- what a process sleeps with, replaced but for the array: its call, and since when and how long it waits
 abbrev pub withCall : Row → ℕ → ℕ → ℕ → ℕ → Row
 withCall r p slot size mask = put (put (put r sleepsAt (entry p) slot) sizes (entry p) size) names (entry p) mask
+
+abbrev pub withWait : Row → ℕ → ℕ → ℕ → Row
+withWait r p start wait = put (put r starts (entry p) start) waits (entry p) wait
 
 -- the room for the array that a process sleeps on, and that array: as many of its bytes as it has
 abbrev pub roomIn : Row → ℕ → List ℕ
@@ -116,8 +137,22 @@ roomIn r p = take arrayBytes (drop (arrayBytes * entry p) (r arrays))
 unfoldable pub arrayIn : Row → ℕ → List ℕ
 arrayIn r p = take (getD (r sizes) (entry p) 0) (roomIn r p)
 
+-- since when it sleeps, and its wait as a number
+abbrev pub startIn : Row → ℕ → ℕ
+startIn r p = getD (r starts) (entry p) 0
+
+abbrev pub waitIn : Row → ℕ → ℕ
+waitIn r p = getD (r waits) (entry p) 0
+
 abbrev pub sleeperIn : Row → ℕ → Sleeper
-sleeperIn r p = record { process = p; slot = getD (r sleepsAt) (entry p) 0; array = arrayIn r p }
+sleeperIn r p =
+    record {
+      process = p;
+      slot = getD (r sleepsAt) (entry p) 0;
+      array = arrayIn r p;
+      start = startIn r p;
+      wait = waitOf (waitIn r p);
+    }
 
 -- how many sleep
 abbrev pub asleepIn : Row → ℕ
@@ -129,8 +164,12 @@ queueIn r = map (sleeperIn r) (take (asleepIn r) (r order))
 abbrev pub tableIn : Host → Table
 tableIn x = record { values = x .row values; lasts = x .row lasts; adjustments = x .adjustments }
 
+-- the time last told
+abbrev pub timeIn : Row → ℕ
+timeIn r = getD (r clock) 0 0
+
 abbrev pub stateIn : Host → State
-stateIn x = record { sets = setsIn (x .row); table = tableIn x; queue = queueIn (x .row) }
+stateIn x = record { sets = setsIn (x .row); table = tableIn x; queue = queueIn (x .row); time = timeIn (x .row) }
 
 -- the host that is lent: its bytes, and its adjustments
 abbrev pub hostIn : List ℕ → List ℤ → Host

@@ -16,28 +16,36 @@ pub data Part : Type 0 where
   -- of each semaphore, by slot and number: its value and its last process
   values : Part
   lasts : Part
+  -- the time last told
+  clock : Part
   -- how many sleep, and their processes, oldest first
   asleep : Part
   order : Part
-  -- what a process sleeps with: the slot, the bytes of its array, and the mask of the semaphores that the array names
+  -- what a process sleeps with: the slot, the bytes of its array, the mask of the semaphores that the array names, the time when
+  -- it went to sleep, and its wait
   sleepsAt : Part
   sizes : Part
   names : Part
+  starts : Part
+  waits : Part
   -- the bytes of the arrays
   arrays : Part
 
--- the parts in their order: those of the sets, of the table, and of the queue
+-- the parts in their order: those of the sets, of the table, of the clock, and of the queue
 abbrev pub ofSets : List Part
 ofSets = generations ∷ counts ∷ readers ∷ alterers ∷ []
 
 abbrev pub ofTable : List Part
 ofTable = values ∷ lasts ∷ []
 
+abbrev pub ofClock : List Part
+ofClock = clock ∷ []
+
 abbrev pub ofQueue : List Part
-ofQueue = asleep ∷ order ∷ sleepsAt ∷ sizes ∷ names ∷ arrays ∷ []
+ofQueue = asleep ∷ order ∷ sleepsAt ∷ sizes ∷ names ∷ starts ∷ waits ∷ arrays ∷ []
 
 abbrev pub parts : List Part
-parts = ofSets ++ ofTable ++ ofQueue
+parts = ofSets ++ ofTable ++ ofClock ++ ofQueue
 
 -- a part's number: where it stands in that list
 abbrev pub part : ℕ → Part
@@ -57,12 +65,15 @@ listed readers = nth 2
 listed alterers = nth 3
 listed values = nth 4
 listed lasts = nth 5
-listed asleep = nth 6
-listed order = nth 7
-listed sleepsAt = nth 8
-listed sizes = nth 9
-listed names = nth 10
-listed arrays = nth 11
+listed clock = nth 6
+listed asleep = nth 7
+listed order = nth 8
+listed sleepsAt = nth 9
+listed sizes = nth 10
+listed names = nth 11
+listed starts = nth 12
+listed waits = nth 13
+listed arrays = nth 14
 
 abbrev pub number : Part → ℕ
 number p = listed p .number
@@ -84,11 +95,14 @@ shapes =
     ∷ shape 1 slots
     ∷ shape 2 allSemaphores
     ∷ shape 1 allSemaphores
+    ∷ shape 8 1
     ∷ shape 1 1
     ∷ shape 1 processes
     ∷ shape 1 processes
     ∷ shape 1 processes
     ∷ shape 1 processes
+    ∷ shape 8 processes
+    ∷ shape 8 processes
     ∷ shape 1 (processes * arrayBytes)
     ∷ []
 

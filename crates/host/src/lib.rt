@@ -5,15 +5,19 @@
 // it, `rowIn`, by an equation; proofs/Whole.antt has that two rows which say the same are the same bytes.
 mod adjustments;
 mod bytes;
+mod clock;
 mod parts;
 mod semaphores;
 mod sets;
 mod sleepers;
 mod start;
+mod waits;
 
 pub use adjustments::adjustments_of;
 pub use adjustments::put_adjustment;
 pub use adjustments::put_adjustments;
+pub use clock::put_time;
+pub use clock::time_of;
 pub use parts::HOST_BYTES;
 pub use semaphores::last_at;
 pub use semaphores::lasts_of;
@@ -39,3 +43,8 @@ pub use sleepers::slot_byte;
 pub use sleepers::store_array;
 pub use start::fresh;
 pub use start::no_adjustments;
+pub use waits::is_due;
+pub use waits::put_wait;
+pub use waits::start_at;
+pub use waits::wait_at;
+pub use waits::wait_number;

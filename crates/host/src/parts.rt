@@ -19,19 +19,27 @@ pub const VALUES_AT: usize = ALTERERS_AT + SETS;
 
 pub const LASTS_AT: usize = VALUES_AT + 2 * ALL_SEMAPHORES;
 
+// The time last told (8 bytes).
+pub const CLOCK_AT: usize = LASTS_AT + ALL_SEMAPHORES;
+
 // How many sleep, and their processes, oldest first.
-pub const ASLEEP_AT: usize = LASTS_AT + ALL_SEMAPHORES;
+pub const ASLEEP_AT: usize = CLOCK_AT + 8;
 
 pub const ORDER_AT: usize = ASLEEP_AT + 1;
 
-// What a process sleeps with: the slot, the bytes of its array, and the mask of the semaphores that the array names.
+// What a process sleeps with: the slot, the bytes of its array, the mask of the semaphores that the array names, the time
+// when it went to sleep and its wait (8 bytes each).
 pub const SLEEPS_AT: usize = ORDER_AT + PROCESSES;
 
 pub const SIZES_AT: usize = SLEEPS_AT + PROCESSES;
 
 pub const NAMES_AT: usize = SIZES_AT + PROCESSES;
 
+pub const STARTS_AT: usize = NAMES_AT + PROCESSES;
+
+pub const WAITS_AT: usize = STARTS_AT + 8 * PROCESSES;
+
 // The bytes of the arrays.
-pub const ARRAYS_AT: usize = NAMES_AT + PROCESSES;
+pub const ARRAYS_AT: usize = WAITS_AT + 8 * PROCESSES;
 
 pub const HOST_BYTES: usize = ARRAYS_AT + ALL_BYTES;

@@ -52,7 +52,7 @@ pub fn put_process(host: &mut [u8; HOST_BYTES], at: usize, process: u8)
 }
 
 // Where a process stands in a part by process; beyond it for no process.
-fn entry_of(process: u8) -> usize
+pub fn entry_of(process: u8) -> usize
     ensures { λ r. ⌜ r ≡ entry process ⌝ }
 {
     if process == 0 {

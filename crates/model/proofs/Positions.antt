@@ -29,7 +29,7 @@ use Rattle.model.specs.Look.{copiesOf, look}
 use Rattle.model.specs.Waking.{World, Waker, waker, waking, finish}
 use Rattle.model.specs.Clock.{atOnce}
 use Rattle.model.specs.Checks.{slotOf, checkCreate, checkOperate, checkNumber, checkSetValue, checkSetAll, checkSet, checkProcess, checkClock}
-use Rattle.model.specs.Events.{Event, create, operate, setValue, remove, signal, exit, query, setAll, readAll, clock, Result, checked, endedWith, slept, operated, call, event, doCreate, doOperate, doSetValue, doRemove, doSignal, doExit, doQuery, doSetAll, doReadAll, doClock}
+use Rattle.model.specs.Events.{Event, create, operate, setValue, remove, signal, exit, query, setAll, readAll, clock, Result, checked, endedWith, wouldSleep, operated, call, event, doCreate, doOperate, doSetValue, doRemove, doSignal, doExit, doQuery, doSetAll, doReadAll, doClock}
 use Rattle.model.specs.Runs.{All, none, also}
 use Rattle.model.specs.Invariant.{Fits}
 use Rattle.model.specs.Positions.{Decides, WakingNamed, done, again, range, removed, signalled, expired, CallNamed, Named, Names}
@@ -189,23 +189,23 @@ checked-named zero s r P n h = h
 checked-named (suc code) s r P n h = n
 
 -- a call that would sleep names the operation that it is handed, whether it may wait or not
-slept-named : (s : State) (c : Sleeper) (at : Position) → slept s c at .answer .position ≡ at
-unfolding slept
-slept-named s c at = either (λ (r : Result). r .answer .position ≡ at) (atOnce (c .wait)) _ _ refl refl
+would-sleep-named : (s : State) (c : Sleeper) (at : Position) → wouldSleep s c at .answer .position ≡ at
+unfolding wouldSleep
+would-sleep-named s c at = either (λ (r : Result). r .answer .position ≡ at) (atOnce (c .wait)) _ _ refl refl
 
 -- an operate names the operation that decides its call, and the one that decides
 operated-named : (wake : Waker) (s : State) (c : Sleeper) (x : Outcome) (copies : Copies) (k : ℕ)
     → operated wake s c x (deciderOf (look (s .table) c)) copies .answer .position ≡ At k → Decides (copiesOf (s .table) c) (operationsOf (c .array)) k
 unfolding operated
 operated-named wake s c Done copies k e = absurd (not-there e)
-operated-named wake s c Sleep copies k e = look-decides (s .table) c k (sym (slept-named s c _) ∙ e)
+operated-named wake s c Sleep copies k e = look-decides (s .table) c k (sym (would-sleep-named s c _) ∙ e)
 operated-named wake s c Again copies k e = look-decides (s .table) c k e
 operated-named wake s c Range copies k e = look-decides (s .table) c k e
 
 operated-decider : (wake : Waker) (s : State) (c : Sleeper) (x : Outcome) (at : Position) (copies : Copies) → x ≢ Done → operated wake s c x at copies .answer .position ≡ at
 unfolding operated
 operated-decider wake s c Done at copies n = absurd (n refl)
-operated-decider wake s c Sleep at copies n = slept-named s c at
+operated-decider wake s c Sleep at copies n = would-sleep-named s c at
 operated-decider wake s c Again at copies n = refl
 operated-decider wake s c Range at copies n = refl
 
@@ -274,7 +274,7 @@ checked-wakings zero s r h = h
 checked-wakings (suc code) s r h = none
 
 operated-wakings : (engine : Engine) (s : State) (c : Sleeper) (x : Outcome) (at : Position) (copies : Copies) → All WakingNamed (operated (waker engine) s c x at copies .wakings)
-unfolding operated slept
+unfolding operated wouldSleep
 operated-wakings engine s c Done at copies = wake-named engine (c .slot) _ _ 0 none
 operated-wakings engine s c Sleep at copies = either (λ (r : Result). All WakingNamed (r .wakings)) (atOnce (c .wait)) _ _ none none
 operated-wakings engine s c Again at copies = none

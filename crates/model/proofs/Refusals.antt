@@ -14,7 +14,7 @@ use Rattle.model.specs.Judge.{codeOf}
 use Rattle.model.specs.Waking.{Waker, waker}
 use Rattle.model.specs.Clock.{atOnce}
 use Rattle.model.specs.Checks.{checkCreate, checkOperate, checkNumber, checkSetValue, checkSetAll, checkSet, checkProcess, checkClock}
-use Rattle.model.specs.Events.{Event, create, operate, setValue, remove, signal, exit, query, setAll, readAll, clock, Result, refusedAt, checked, slept, operated, event, doCreate, doOperate, doSetValue, doRemove, doSignal, doExit, doQuery, doSetAll, doReadAll, doClock}
+use Rattle.model.specs.Events.{Event, create, operate, setValue, remove, signal, exit, query, setAll, readAll, clock, Result, refusedAt, checked, wouldSleep, operated, event, doCreate, doOperate, doSetValue, doRemove, doSignal, doExit, doQuery, doSetAll, doReadAll, doClock}
 use Rattle.model.specs.Runs.{RefusedWhole, Refuses}
 use Rattle.model.proofs.JudgeLaws.{either}
 
@@ -32,15 +32,15 @@ by-check zero s r h = h
 by-check (suc n) s r h = λ code e. same-code s (suc n) (suc code) Nowhere e
 
 -- a call that would sleep is refused if it may not wait
-slept-refuses : (s : State) (c : Sleeper) (at : Position) → Refuses s (slept s c at)
-unfolding slept codeOf
-slept-refuses s c at =
+would-sleep-refuses : (s : State) (c : Sleeper) (at : Position) → Refuses s (wouldSleep s c at)
+unfolding wouldSleep codeOf
+would-sleep-refuses s c at =
     either (Refuses s) (atOnce (c .wait)) _ _ (λ code e. same-code s 11 (suc code) at e) (λ code e. let n : _≡_ {A = ℕ} 0 1 = cc in absurd (omega arith))
 
 operated-refuses : (wake : Waker) (s : State) (c : Sleeper) (x : Outcome) (at : Position) (copies : Copies) → Refuses s (operated wake s c x at copies)
 unfolding operated
 operated-refuses wake s c Done at copies = done _ refl
-operated-refuses wake s c Sleep at copies = slept-refuses s c at
+operated-refuses wake s c Sleep at copies = would-sleep-refuses s c at
 operated-refuses wake s c Again at copies = λ code e. same-code s 11 (suc code) at e
 operated-refuses wake s c Range at copies = λ code e. same-code s 34 (suc code) at e
 

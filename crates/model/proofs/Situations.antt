@@ -11,7 +11,7 @@ use Rattle.model.specs.Checks.{identifierOf, slotOf, namesSet, noProcess
 use Rattle.model.specs.Clock.{overBy, atOnce}
 use Rattle.model.specs.Values.{signed32, valuesFrom, held}
 use Rattle.model.specs.State.{clearRows, cleared}
-use Rattle.model.specs.Events.{clearNumber, assigned, cut, undoAll, exited, keep, endedWith, doCreate, slept, operated, doOperate, doSetValue, doRemove, doClock, treat, treatFrom, touchedFrom, doExit, seenAt, doQuery, assignedAll, doSetAll, readAt, readFrom, doReadAll, event}
+use Rattle.model.specs.Events.{clearNumber, assigned, cut, undoAll, exited, keep, endedWith, doCreate, wouldSleep, operated, doOperate, doSetValue, doRemove, doClock, treat, treatFrom, touchedFrom, doExit, seenAt, doQuery, assignedAll, doSetAll, readAt, readFrom, doReadAll, event}
 use Rattle.model.specs.Runs.{run, All, none, also}
 use Rattle.model.specs.Situations.{Situation, Shows, Holds, situation1, situation2, situation3, situation4, situation5, situation6, situation7, situation8, situation9, situation10, situation11, situation12, situation12b, situation13, situation14, situation15, situation16, situation17, situation18, situation19, situation20, situation21, situation22, table}
 
@@ -20,7 +20,7 @@ both r p q Plain = p
 both r p q Quick = q
 
 pub situations : All Holds table
-unfolding run event doCreate slept operated doOperate doSetValue doRemove doClock overBy atOnce checkClock treat treatFrom touchedFrom doExit seenAt doQuery assignedAll doSetAll readAt readFrom doReadAll signed32 valuesFrom held allInRange checkSetAll everyNumber stop stopsAt forIncrease forZero countOf identifierOf slotOf namesSet noProcess asleep numberTooHigh permitted freeFrom checkCreate checkOperate checkNumber inRange checkSetValue checkSet checkProcess clearRows cleared clearNumber assigned cut undoAll exited keep endedWith waker plain quick plainRound quickRound finish without look lastsAfter applied after valuesOf adjustmentsOf judgeFrom goOn step nextValue nextAdjustment codeOf decidedAt finishes operationsFrom signed16 isZero isNegative unmark marked namedBy differing mine maskOf
+unfolding run event doCreate wouldSleep operated doOperate doSetValue doRemove doClock overBy atOnce checkClock treat treatFrom touchedFrom doExit seenAt doQuery assignedAll doSetAll readAt readFrom doReadAll signed32 valuesFrom held allInRange checkSetAll everyNumber stop stopsAt forIncrease forZero countOf identifierOf slotOf namesSet noProcess asleep numberTooHigh permitted freeFrom checkCreate checkOperate checkNumber inRange checkSetValue checkSet checkProcess clearRows cleared clearNumber assigned cut undoAll exited keep endedWith waker plain quick plainRound quickRound finish without look lastsAfter applied after valuesOf adjustmentsOf judgeFrom goOn step nextValue nextAdjustment codeOf decidedAt finishes operationsFrom signed16 isZero isNegative unmark marked namedBy differing mine maskOf
 situations =
     also (both situation1 refl refl)
     (also (both situation2 refl refl)

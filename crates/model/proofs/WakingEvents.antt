@@ -28,7 +28,7 @@ use Rattle.model.specs.Waking.{World, Ended, couldFinish, waker}
 use Rattle.model.specs.Clock.{atOnce}
 use Rattle.model.specs.Values.{valuesIn, held}
 use Rattle.model.specs.Checks.{live, slotOf, checkOperate, checkSetValue, checkSetAll, checkProcess}
-use Rattle.model.specs.Events.{Result, answerAt, refusedAt, wokenAs, world, slept, operated, call, doOperate, assigned, doSetValue, assignedAll, doSetAll, exited, keep, treat, treatFrom, touchedFrom, doExit, notOf}
+use Rattle.model.specs.Events.{Result, answerAt, refusedAt, wokenAs, world, wouldSleep, operated, call, doOperate, assigned, doSetValue, assignedAll, doSetAll, exited, keep, treat, treatFrom, touchedFrom, doExit, notOf}
 use Rattle.model.specs.Runs.{All, none, also, InTime}
 use Rattle.model.proofs.Lists.{all-map, all-zip, all-zip3, all-append}
 use Rattle.model.specs.Invariant.{Good, Clean, Fits, Other, Invariant, countAt}
@@ -81,10 +81,10 @@ treated s slot touched t i g clean aside ready =
 -- ---- operate
 
 -- a call that would sleep, and begins now
-slept-agrees : (s : State) (c : Sleeper) (at : Position) → Invariant s → Fits (s .sets) c → All (Other c) (s .queue) → couldFinish (s .table) c ≡ false → c .start ≡ s .time
-    → Agrees (slept s c at) (slept s c at)
-unfolding slept
-slept-agrees s c at i f others stuck begun = go (atOnce (c .wait)) refl
+would-sleep-agrees : (s : State) (c : Sleeper) (at : Position) → Invariant s → Fits (s .sets) c → All (Other c) (s .queue) → couldFinish (s .table) c ≡ false → c .start ≡ s .time
+    → Agrees (wouldSleep s c at) (wouldSleep s c at)
+unfolding wouldSleep
+would-sleep-agrees s c at i f others stuck begun = go (atOnce (c .wait)) refl
   where
     asleep : Result
     asleep = record { answer = answerAt (codeOf Sleep) at; state = record { sets = s .sets; table = s .table; queue = s .queue ++ c ∷ []; time = s .time }; looks = 0; wakings = [] }
@@ -129,7 +129,7 @@ operated-agrees s c Done at copies i f others k clean e begun =
         → hasBit (named q) (differing 0 0 (valuesOf (s .table) (c .slot)) (valuesOf t (c .slot))) ≡ false → couldFinish t q ≡ false
     ready q fq o st e un =
         unconcerned-stuck (i .counts) (s .table) t q (i .good) g fq (rw (slot-mine (c .slot) q e) un) (applied-undo (s .table) c q (i .good) f fq copies k o) st
-operated-agrees s c Sleep at copies i f others k clean e begun = slept-agrees s c at i f others (ap finishes e) begun
+operated-agrees s c Sleep at copies i f others k clean e begun = would-sleep-agrees s c at i f others (ap finishes e) begun
 operated-agrees s c Again at copies i f others k clean e begun = quiet _ refl i
 operated-agrees s c Range at copies i f others k clean e begun = quiet _ refl i
 

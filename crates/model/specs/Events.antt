@@ -228,8 +228,8 @@ doCreate s count read alter =
     })
 
 -- a call that would sleep: "a wait of 0 that would sleep is 11 at once"; else "Sleeping changes nothing but the queue"
-unfoldable pub slept : State → Sleeper → Position → Result
-slept s c position =
+unfoldable pub wouldSleep : State → Sleeper → Position → Result
+wouldSleep s c position =
     cond (atOnce (c .wait)) (refusedAt s 11 position)
     (record { answer = answerAt (codeOf Sleep) position; state = record { sets = s .sets; table = s .table; queue = s .queue ++ c ∷ []; time = s .time }; looks = 0; wakings = [] })
 
@@ -239,7 +239,7 @@ unfoldable pub operated : Waker → State → Sleeper → Outcome → Position �
 operated wake s c Done position copies =
     let t = applied (s .table) c copies in
     wokenAs s (wake (c .slot) (differing 0 0 (valuesOf (s .table) (c .slot)) (valuesOf t (c .slot))) (world t (s .queue)) 0)
-operated wake s c Sleep position copies = slept s c position
+operated wake s c Sleep position copies = wouldSleep s c position
 operated wake s c Again position copies = refusedAt s 11 position
 operated wake s c Range position copies = refusedAt s 34 position
 

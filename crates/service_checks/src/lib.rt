@@ -10,13 +10,14 @@ ghost use lib.Dec.{eqb, ltb};
 ghost use lib.IntN.{ℤ};
 ghost use Rattle.model.specs.Limits.{operationBytes};
 ghost use Rattle.model.specs.Operation.{operationsOf};
-ghost use Rattle.model.specs.Checks.{namesSet, freeSlot, checkCreate, checkOperate, checkNumber, checkSetValue, checkSetAll, checkSet, checkProcess};
+ghost use Rattle.model.specs.Checks.{namesSet, freeSlot, checkCreate, checkOperate, checkNumber, checkSetValue, checkSetAll, checkSet, checkProcess, checkClock};
 ghost use Rattle.judging.specs.Named.{namedWithin};
 ghost use Rattle.host.specs.Parts.{rowIn};
 ghost use Rattle.host.specs.Holding.{setsIn, hostIn, stateIn};
 ghost use Rattle.service_queue.specs.Seated.{Seated};
 use host::HOST_BYTES;
 use host::set_at;
+use host::time_of;
 use judging::Checked;
 use judging::all_in_range;
 use judging::check_array;
@@ -27,6 +28,7 @@ use model::OPERATION_BYTES;
 use model::PROCESSES;
 use model::SEMAPHORES;
 use model::SETS;
+use model::TIME_MAX;
 use model::VALUE_BYTES;
 use service_queue::is_asleep;
 
@@ -159,4 +161,14 @@ pub fn check_process(process: u8) -> u8
     ensures { λ r. ⌜ r ≡ checkProcess process ⌝ }
 {
     if beyond(process, PROCESSES) { 3 } else { 0 }
+}
+
+// The clock: not before the last time told, and none later than the latest.
+pub fn check_clock(host: &[u8; HOST_BYTES], time: u64) -> u8
+    ensures { λ r. ⌜ ((a : List ℤ) → r ≡ checkClock (stateIn (hostIn (now (host .entry)) a)) time) ⌝ }
+{
+    if time < time_of(host) {
+        return 22;
+    }
+    if TIME_MAX < time { 22 } else { 0 }
 }

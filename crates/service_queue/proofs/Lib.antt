@@ -2,4 +2,4 @@
 pub mod MovingLaws
 pub mod QueueHeldLaws
 pub mod PositionLaws
-pub mod RemovalLaws
+pub mod EndingLaws

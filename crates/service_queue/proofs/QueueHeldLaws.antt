@@ -6,20 +6,22 @@ use lib.ListN.{length, getD, take, replicate}
 use lib.Seq.{sets}
 use Rattle.model.specs.Limits.{processes, arrayBytes}
 use Rattle.model.specs.State.{Sleeper, noSleeper}
+use Rattle.model.specs.Marks.{named}
 use Rattle.model.specs.Waking.{without}
-use Rattle.host.specs.Parts.{Part, asleep, order, sleepsAt, sizes, arrays, Row, with, put}
-use Rattle.host.specs.Holding.{Kept, kept, withQueue, entry, queueIn}
+use Rattle.host.specs.Parts.{Part, asleep, order, sizes, arrays, Row, with, put}
+use Rattle.host.specs.Waits.{waitNumber}
+use Rattle.host.specs.Holding.{Kept, kept, withQueue, entry, withCall, withWait, sleeperIn, queueIn}
 use Rattle.host.specs.Queue.{Room, Queued, QueueHeld}
 use Rattle.host.proofs.PartLaws.{by-groups}
 use Rattle.host.proofs.ProcessLaws.{Awake}
-use Rattle.host.proofs.QueueRows.{order-at, slot-read, withEntry, emptied, taken, joinedBy, joined, queue-back}
+use Rattle.host.proofs.QueueRows.{order-at, sleeper-read, withEntry, emptied, taken, joinedBy, joined, queue-back}
 use Rattle.service_queue.specs.Seated.{movedUp}
 use Rattle.service_queue.proofs.MovingLaws.{order-moved}
 
 -- ---- a queue is put into a row
 
 pub queue-again : (r : Row) (p q : List Sleeper) → withQueue (withQueue r p) q ≡ withQueue r q
-queue-again r p q = by-groups _ _ refl refl refl
+queue-again r p q = by-groups _ _ refl refl refl refl
 
 module _ (r : Row) {r′ : Row} {q : List Sleeper} (e : r′ ≡ withQueue r q) (f : Queued q) where
   -- the row shows it
@@ -48,13 +50,12 @@ module _ {r : Row} (k : QueueHeld r) where
   pub process-is : (i : ℕ) → i < length (queueIn r) → getD (r order) i 0 ≡ getD (queueIn r) i noSleeper .process
   process-is i h = ap (λ (l : List ℕ). getD l i 0) (part-is order) ∙ order-at queue i h
 
-  pub slot-is : (i : ℕ) → i < length (queueIn r) → {p : ℕ} → p ≡ getD (r order) i 0 → getD (r sleepsAt) (entry p) 0 ≡ getD (queueIn r) i noSleeper .slot
-  slot-is i h e =
-      ap₂ (λ (l : List ℕ) (p : ℕ). getD l (entry p) 0) (part-is sleepsAt) (e ∙ process-is i h) ∙ slot-read queue (k .fits) i h r
+  pub sleeper-is : (i : ℕ) → i < length (queueIn r) → {p : ℕ} → p ≡ getD (r order) i 0 → sleeperIn r p ≡ getD (queueIn r) i noSleeper
+  sleeper-is i h e = ap₂ sleeperIn (k .holds) (e ∙ process-is i h) ∙ sleeper-read queue (k .fits) i h r
 
 -- ---- one is taken out: what its process has is put to 0, the order moves up, and its array is cleared
 
-abbrev awoken : ℕ → Row → Row
+abbrev pub awoken : ℕ → Row → Row
 awoken p r = withEntry kept p (λ (k : Kept). 0) r
 
 abbrev shortened : ℕ → ℕ → Row → Row
@@ -88,6 +89,14 @@ module _ {r r₁ : Row} {p : ℕ} (k : QueueHeld r) (at : ℕ) (h : at < length 
       ∙ taken q (k .fits) at h r
 
 -- ---- one joins
+
+-- what its process keeps of it is written
+pub kept-written : (r : Row) {r₁ r₂ : Row} (s : Sleeper) (mask start wait : ℕ) → r₁ ≡ withCall r (s .process) (s .slot) (length (s .array)) mask → r₂ ≡ withWait r₁ (s .process) start wait
+    → mask ≡ named s → start ≡ s .start → wait ≡ waitNumber (s .wait) → r₂ ≡ withEntry kept (s .process) (λ (k : Kept). k .of s) r
+kept-written r {r₁} s mask start wait e₁ e₂ m a w =
+    let p : ℕ = s .process in
+    e₂ ∙ ap₂ (λ (x y : ℕ). withWait r₁ p x y) a w
+    ∙ ap (λ (x : Row). withWait x p (s .start) (waitNumber (s .wait))) (e₁ ∙ ap (withCall r p (s .slot) (length (s .array))) m)
 
 module _ {r r₁ r₂ : Row} {s : Sleeper} (k : QueueHeld r) (room : Room s) (a : Awake (s .process) (queueIn r)) (h : length (queueIn r) < processes)
     (e₁ : r₁ ≡ with r arrays (sets (r arrays) (arrayBytes * entry (s .process)) (take arrayBytes (s .array))))

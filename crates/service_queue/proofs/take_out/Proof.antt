@@ -3,9 +3,9 @@ use Prim.Native.Nat.{ℕ, _-_}
 use native.Mathlib.Omega.{arith}
 use mathlib.Core.Path.{_≡_, ap, _∙_}
 use lib.ListN.{length}
-use Rattle.host.specs.Parts.{rowIn}
-use Rattle.host.specs.Holding.{queueIn}
-use Rattle.service_queue.proofs.QueueHeldLaws.{still-asleep, taken-out}
+use Rattle.host.specs.Parts.{Row, rowIn}
+use Rattle.host.specs.Holding.{withWait, queueIn}
+use Rattle.service_queue.proofs.QueueHeldLaws.{awoken, still-asleep, taken-out}
 use borrow.Author.Needs.{needs}
 use Rattle.service_queue.proofs.take_out.Statement.{statement}
 use Rattle.service_queue.proofs.take_out.Tie as tie
@@ -19,18 +19,35 @@ size-at-requires c κs = search needs
 put-call-requires : tie.Need-put-call-requires
 put-call-requires c κs = search needs
 
+put-wait-requires : tie.Need-put-wait-requires
+put-wait-requires c κs = search needs
+
 asleep-of-requires : tie.Need-asleep-of-requires
 asleep-of-requires c κs = search needs
 
+-- where its process and the size of its array were found, and where the function was entered
+abbrev sized : tie.After-put-wait → tie.After-size-at
+sized c = c .before .before .before .before
+
+abbrev found : tie.After-put-wait → tie.After-process-at
+found c = sized c .before .before
+
+abbrev entered : tie.After-put-wait → tie.Start
+entered c = found c .before .before
+
+-- what its process has is 0
+awake : (c : tie.After-put-wait) → rowIn (c .put-wait .last .0) ≡ awoken (found c .process-at .result) (rowIn (entered c .args .host .now))
+awake c = c .put-wait .ensures ∙ ap (λ (r : Row). withWait r (found c .process-at .result) 0 0) (c .before .before .put-call .ensures)
+
 abbrev start : tie.After-asleep-of → tie.Start
-start c = c .before .before .before .before .before .before .before .before
+start c = entered (c .before .before)
 
 -- how many sleep before
 count-is : (c : tie.After-asleep-of) → c .asleep-of .result ≡ length (queueIn (rowIn (start c .args .host .now)))
 count-is c =
+    let w = c .before .before in
     let s = start c in
-    c .asleep-of .ensures
-    ∙ still-asleep (s .pre .0) (s .args .at) (s .pre .1) (c .before .before .before .before .before .before .process-at .ensures) (c .before .before .put-call .ensures)
+    c .asleep-of .ensures ∙ still-asleep (s .pre .0) (s .args .at) (s .pre .1) (found w .process-at .ensures) (awake w)
 
 sub-last : tie.Need-sub-last
 sub-last c = omega (arith, count-is c, start c .pre .1)
@@ -52,9 +69,10 @@ clear-array-requires c κs = search needs
 returns : tie.Need-returns
 returns c =
     let a = c .before .before .before .before .before .before in
+    let w = a .before .before in
     let s = start a in
-    taken-out (s .pre .0) (s .args .at) (s .pre .1) (a .before .before .before .before .before .before .process-at .ensures) (a .before .before .put-call .ensures)
-    (a .before .before .before .before .size-at .ensures) (ap (λ (n : ℕ). n - 1) (a .asleep-of .ensures)) (c .before .before .before .before .move-up .ensures) (c .before .before .put-asleep .ensures) (c .clear-array .ensures)
+    taken-out (s .pre .0) (s .args .at) (s .pre .1) (found w .process-at .ensures) (awake w)
+    (sized w .size-at .ensures) (ap (λ (n : ℕ). n - 1) (a .asleep-of .ensures)) (c .before .before .before .before .move-up .ensures) (c .before .before .put-asleep .ensures) (c .clear-array .ensures)
 
 pub take-out-spec : {M : Type 1} → statement M
 take-out-spec =
@@ -63,6 +81,7 @@ take-out-spec =
     process-at-requires
     size-at-requires
     put-call-requires
+    put-wait-requires
     asleep-of-requires
     sub-last
     move-up-requires

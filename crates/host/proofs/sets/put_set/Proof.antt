@@ -1,9 +1,9 @@
 use native.Mathlib.Omega.{arith}
-use mathlib.Core.Path.{refl, ap, _∙_}
+use mathlib.Core.Path.{refl}
 use lib.ListN.{length-set}
-use Rattle.host.specs.Parts.{generations, counts, readers, alterers, rowIn, put}
-use Rattle.host.proofs.PartLaws.{write-part, write-beyond}
-use Rattle.host.proofs.SleeperLaws.{Says, says-byte, same-beyond}
+use Rattle.host.specs.Parts.{generations, counts, readers, alterers}
+use Rattle.host.proofs.PartLaws.{write-beyond}
+use Rattle.host.proofs.SleeperLaws.{says, says-number, says-byte, same-beyond}
 use borrow.Author.Needs.{needs}
 use Rattle.host.proofs.sets.put_set.Statement.{statement}
 use Rattle.host.proofs.sets.put_set.Tie as tie
@@ -42,8 +42,8 @@ returns c =
     let i = a .slot in
     let s = a .set in
     let l = b .before .before .before .if1 .taken in
-    let s₁ : Says (b .put-half .last .0) (put (rowIn (a .host .now)) generations i (s .generation)) =
-    record { long = search needs; same = ap rowIn (b .put-half .ensures) ∙ write-part generations i (s .generation) (a .host .now) (search needs) l (omega arith) } in
+    let s₀ = says (a .host .now) (search needs) in
+    let s₁ = says-number s₀ generations i (s .generation) l (omega arith) (b .put-half .ensures) in
     let s₂ = says-byte s₁ counts i (s .count) refl l (omega arith) in
     let s₃ = says-byte s₂ readers i (s .read) refl l (omega arith) in
     says-byte s₃ alterers i (s .alter) refl l (omega arith) .same

@@ -1,0 +1,31 @@
+use mathlib.Core.Path.{sym, _∙_}
+use Rattle.host.specs.Parts.{waits}
+use Rattle.host.proofs.PartLaws.{read-part, read-beyond}
+use borrow.Author.Needs.{needs}
+use Rattle.host.proofs.waits.wait_at.Statement.{statement}
+use Rattle.host.proofs.waits.wait_at.Tie as tie
+
+entry-of-requires : tie.Need-entry-of-requires
+entry-of-requires c κs = search needs
+
+mul-long-at : tie.Need-mul-long-at
+mul-long-at c = search needs
+
+add-long-at : tie.Need-add-long-at
+add-long-at c = search needs
+
+long-at-requires : tie.Need-long-at-requires
+long-at-requires c κs = search needs
+
+returns : tie.Need-returns
+returns c =
+    let e = c .before .before .entry-of in
+    rw (← e .ensures) (c .long-at .ensures ∙ sym (read-part waits (e .result) (c .before .before .before .args .host .now) (c .before .if1 .taken)))
+
+returns-2 : tie.Need-returns-2
+returns-2 c = let e = c .before .entry-of in rw (← e .ensures) (sym (read-beyond waits (e .result) (c .before .before .args .host .now) (c .if1 .left)))
+
+pub wait-at-spec : {M : Type 1} → statement M
+wait-at-spec =
+    tie.close
+    (tie.spec entry-of-requires mul-long-at add-long-at long-at-requires returns returns-2)
