@@ -17,7 +17,7 @@ use Rattle.host.specs.Holding.{Host, hostOf, stateIn, Held}
 use Rattle.host.proofs.HeldLaws.{state-back, held-fresh, held-next}
 use Rattle.wakings.specs.Wakings.{listOf}
 use Rattle.service.specs.After.{tellingAt, showing, replyAs, readAs, Replied, tells, repliedOf}
-use Rattle.service.specs.Calls.{Call, creates, operates, setsValue, removes, signals, exits, queries, setsAll, readsAll, runs, Called, noCall, andCall, lastHost, repliesOf, CallsAlike, CallsAgree}
+use Rattle.service.specs.Calls.{Call, creates, operates, setsValue, removes, signals, exits, queries, setsAll, readsAll, clocks, runs, Called, noCall, andCall, lastHost, repliesOf, CallsAlike, CallsAgree}
 use Rattle.service.proofs.ReplyLaws.{seen, read}
 
 -- ---- one call
@@ -26,7 +26,7 @@ use Rattle.service.proofs.ReplyLaws.{seen, read}
 call-is : (engine : Engine) (x : Host) → Held x → (e : Event) (y : Replied) → Call engine x e y → y ≡ repliedOf e (event (waker engine) (stateIn x) e)
 unfolding event
 call-is engine x k e y (creates count read alter a h) = ap tells h
-call-is engine x k e y (operates p i bytes a h) = ap tells h
+call-is engine x k e y (operates p i wait bytes a h) = ap tells h
 call-is engine x k e y (setsValue i n v a h) = ap tells h
 call-is engine x k e y (removes i a h) = ap tells h
 call-is engine x k e y (signals p a h) = ap tells h
@@ -34,6 +34,7 @@ call-is engine x k e y (exits p a h) = ap tells h
 call-is engine x k e y (queries i n q h) = seen x k i n refl h
 call-is engine x k e y (setsAll i bytes a h) = ap tells h
 call-is engine x k e y (readsAll i lent long q left h) = read x k i lent long h refl
+call-is engine x k e y (clocks now a h) = ap tells h
 call-is engine x k e y (runs d bytes a h) = h
 
 -- .. and a host that holds the state after it
@@ -122,4 +123,5 @@ calls-agree events quick plain cs ds =
       last = q ∙ sym p;
       ends = q;
       stuck = rw (a .last) at (a .stuck);
+      inTime = rw (a .last) at (a .inTime);
     }

@@ -8,15 +8,15 @@ use Rattle.model.specs.declared.Set.{Set}
 use Rattle.model.specs.declared.Told.{Told}
 use Rattle.model.specs.declared.Waking.{Waking}
 use Rattle.model.specs.Limits.{slots}
-use Rattle.model.specs.State.{Table, Sleeper, freeSet, noSet, cleared}
+use Rattle.model.specs.State.{Table, Sleeper, State, freeSet, noSet, cleared}
 use Rattle.model.specs.Marks.{mine}
 use Rattle.model.specs.Checks.{slotOf, freeSlot, identifierOf, checkCreate, checkSet}
 use Rattle.model.specs.Events.{keep, endedWith, doCreate, doRemove, notMine}
 use Rattle.model.proofs.CheckLaws.{create-passes, set-passes}
 use Rattle.host.specs.Parts.{Row}
-use Rattle.host.specs.Holding.{Host, withQueue, withTable, hostOf, setAt, withSet, setsIn, queueIn, tableIn, stateIn, Held, arrayIn}
+use Rattle.host.specs.Holding.{Host, withQueue, withTable, hostOf, setAt, withSet, setsIn, timeIn, queueIn, tableIn, stateIn, Held, arrayIn}
 use Rattle.host.specs.Queue.{Queued, QueueHeld}
-use Rattle.host.proofs.PartLaws.{setParts, queueParts, by-groups}
+use Rattle.host.proofs.PartLaws.{setParts, clockParts, queueParts, by-groups}
 use Rattle.host.proofs.SetRows.{set-in}
 use Rattle.wakings.specs.Wakings.{Place, listOf}
 use Rattle.service_table.specs.Written.{tabled}
@@ -28,21 +28,24 @@ map-set f [] i x = refl
 map-set f (y ∷ l) zero x = refl
 map-set {B = B} f (y ∷ l) (suc i) x = ap (λ (r : List B). f y ∷ r) (map-set f l i x)
 
--- a set put into a slot of a host, another table, and another queue
+-- a host's state with a set put into a slot, another table, and another queue
+abbrev slotWith : Host → ℕ → Set → Table → List Sleeper → State
+slotWith x slot s t q = record { sets = set (setsIn (x .row)) slot s; table = t; queue = q; time = timeIn (x .row) }
+
 module _ (x : Host) (k : Held x) (slot : ℕ) (s : Set) (t : Table) (q : List Sleeper) where
   -- the set is put into the parts of the sets
-  sets-put : setParts (withSet (x .row) slot s) ≡ setParts (hostOf (record { sets = set (setsIn (x .row)) slot s; table = t; queue = q }) .row)
+  sets-put : setParts (withSet (x .row) slot s) ≡ setParts (hostOf (slotWith x slot s t q) .row)
   sets-put =
       let old : List Set = setsIn (x .row) in
       ap (λ (y : Host). setParts (withSet (y .row) slot s)) (k .holds)
       ∙ rw (map-set (λ (y : Set). y .generation) old slot s, map-set (λ (y : Set). y .count) old slot s, map-set (λ (y : Set). y .read) old slot s, map-set (λ (y : Set). y .alter) old slot s)
 
-  pub set-host : record { row = withQueue (withTable (withSet (x .row) slot s) t) q; adjustments = t .adjustments } ≡ hostOf (record { sets = set (setsIn (x .row)) slot s; table = t; queue = q })
-  set-host = ap (λ (r : Row). record { row = r; adjustments = t .adjustments }) (by-groups _ _ sets-put refl refl)
+  pub set-host : record { row = withQueue (withTable (withSet (x .row) slot s) t) q; adjustments = t .adjustments } ≡ hostOf (slotWith x slot s t q)
+  set-host = ap (λ (r : Row). record { row = r; adjustments = t .adjustments }) (by-groups _ _ sets-put refl (ap (λ (y : Host). clockParts (y .row)) (k .holds)) refl)
 
   -- the queue's parts stay
   row-kept : withTable (withSet (x .row) slot s) t ≡ withQueue (withTable (withSet (x .row) slot s) t) (queueIn (x .row))
-  row-kept = by-groups _ _ refl refl (ap queueParts (held-row x k .holds))
+  row-kept = by-groups _ _ refl refl refl (ap queueParts (held-row x k .holds))
 
   queue-kept : queueIn (withTable (withSet (x .row) slot s) t) ≡ queueIn (x .row)
   unfolding queueIn arrayIn
@@ -64,12 +67,12 @@ module _ (x : Host) (k : Held x) (count read alter : ℕ) (z : checkCreate (stat
       let s : Set = record { generation = g; count = count; read = read; alter = alter } in
       let c : Table = cleared (tableIn x) slot in
       let old : g ≡ getD (setsIn (x .row)) slot noSet .generation = eg ∙ ap (λ (u : Set). u .generation) (sym (set-in (x .row) slot (rw es create-slot))) in
-      let h : y ≡ hostOf (record { sets = set (setsIn (x .row)) slot s; table = c; queue = queueIn (x .row) }) =
+      let h : y ≡ hostOf (slotWith x slot s c (queueIn (x .row))) =
       ey ∙ ap (λ (a : Row). tabled (record { row = a; adjustments = x .adjustments }) (cleared (tableIn (record { row = a; adjustments = x .adjustments })) slot)) er
       ∙ ap (λ (a : Row). record { row = a; adjustments = c .adjustments }) (row-kept x k slot s c (queueIn (x .row)))
       ∙ set-host x k slot s c (queueIn (x .row)) in
       ap₂ (λ (a : Host) (w : List Place). record { host = a; wakings = w; told = told }) h el
-      ∙ ap (λ (u : Told). record { host = hostOf (record { sets = set (setsIn (x .row)) slot s; table = c; queue = queueIn (x .row) }); wakings = listOf []; told = u }) (et ∙ ap (λ (v : ℕ). telling (pos 0) v 0 0) ev)
+      ∙ ap (λ (u : Told). record { host = hostOf (slotWith x slot s c (queueIn (x .row))); wakings = listOf []; told = u }) (et ∙ ap (λ (v : ℕ). telling (pos 0) v 0 0) ev)
       ∙ rw (old, es) (ap afterOf (goes-on (stateIn x) _ z))
 
 -- ---- remove
@@ -106,10 +109,10 @@ module _ (x : Host) (k : Held x) (i : ℤ) (z : checkSet (stateIn x) i ≡ 0) wh
         let q : List Sleeper = keep (notMine slot) (queueIn (x .row)) in
         let w : List Waking = endedWith (pos 43) (mine slot) (queueIn (x .row)) in
         let old : g ≡ (getD (setsIn (x .row)) slot noSet .generation + 1) % 65536 = eg ∙ ap (λ (u : Set). (u .generation + 1) % 65536) (sym (set-in (x .row) slot (rw es remove-slot))) in
-        let h : record { row = r′; adjustments = y .adjustments } ≡ hostOf (record { sets = set (setsIn (x .row)) slot (freeSet g); table = cleared (tableIn x) slot; queue = q }) =
+        let h : record { row = r′; adjustments = y .adjustments } ≡ hostOf (slotWith x slot (freeSet g) (cleared (tableIn x) slot) q) =
         ap₂ (λ (a : Row) (b : List ℤ). record { row = a; adjustments = b }) (ek ∙ ap₂ (λ (a : Host) (b : List Sleeper). withQueue (a .row) (keep (notMine slot) b)) there queue-there) (ap (λ (a : Host). a .adjustments) there)
         ∙ set-host x k slot (freeSet g) (cleared (tableIn x) slot) q in
         let u : told ≡ telling (pos 0) 0 0 (length w) = et ∙ ap (λ (n : ℕ). telling (pos 0) 0 0 n) (en ∙ ap (λ (a : List Sleeper). length (endedWith (pos 43) (mine slot) a)) queue-there) in
         ap₂ (λ (a : Host) (b : List Place). record { host = a; wakings = b; told = told }) h (el ∙ ap (λ (a : List Sleeper). listOf (endedWith (pos 43) (mine slot) a)) queue-there)
-        ∙ ap (λ (v : Told). record { host = hostOf (record { sets = set (setsIn (x .row)) slot (freeSet g); table = cleared (tableIn x) slot; queue = q }); wakings = listOf w; told = v }) u
+        ∙ ap (λ (v : Told). record { host = hostOf (slotWith x slot (freeSet g) (cleared (tableIn x) slot) q); wakings = listOf w; told = v }) u
         ∙ rw (old, es) (ap afterOf (goes-on (stateIn x) _ z))

@@ -9,13 +9,14 @@ use Rattle.model.specs.declared.Engine.the-variants.{Plain, Quick}
 use Rattle.model.specs.declared.Event as declared
 use Rattle.model.specs.declared.Queried.{Queried}
 use Rattle.model.specs.declared.Reading.{Reading}
+use Rattle.model.specs.declared.Wait.{Wait}
 use Rattle.model.specs.declared.Reply.{Reply}
 use Rattle.model.specs.declared.Reply.the-variants as reply
 use Rattle.model.specs.Limits.{semaphores}
 use Rattle.model.specs.State.{freshState}
 use Rattle.model.specs.Waking.{waker}
-use Rattle.model.specs.Events.{Event, create, operate, setValue, remove, signal, exit, query, setAll, readAll, eventOf, Result, event, doCreate, doOperate, doSetValue, doRemove, doSignal, doExit, doQuery, doSetAll, doReadAll}
-use Rattle.model.specs.Runs.{run, All, Pairwise, Stuck}
+use Rattle.model.specs.Events.{Event, create, operate, setValue, remove, signal, exit, query, setAll, readAll, clock, eventOf, Result, event, doCreate, doOperate, doSetValue, doRemove, doSignal, doExit, doQuery, doSetAll, doReadAll, doClock}
+use Rattle.model.specs.Runs.{run, All, Pairwise, Stuck, InTime}
 use Rattle.host.specs.Holding.{Host, hostOf, stateIn}
 use Rattle.service.specs.After.{After, tellingAt, afterOf, queriedOf, readOut, Replied, tells, shows, reads, repliedOf}
 
@@ -23,7 +24,7 @@ use Rattle.service.specs.After.{After, tellingAt, afterOf, queriedOf, re
 -- what stands in what was lent and returned (its promise's left side).
 pub data Call (engine : Engine) (x : Host) : Event → Replied → Type 0 where
   creates : (count read alter : ℕ) (y : After) → y ≡ afterOf (doCreate (stateIn x) count read alter) → Call engine x (create count read alter) (tells y)
-  operates : (p : ℕ) (i : ℤ) (bytes : List ℕ) (y : After) → y ≡ afterOf (doOperate (waker engine) (stateIn x) p i bytes) → Call engine x (operate p i bytes) (tells y)
+  operates : (p : ℕ) (i : ℤ) (wait : Wait) (bytes : List ℕ) (y : After) → y ≡ afterOf (doOperate (waker engine) (stateIn x) p i wait bytes) → Call engine x (operate p i wait bytes) (tells y)
   setsValue : (i : ℤ) (n : ℕ) (v : ℤ) (y : After) → y ≡ afterOf (doSetValue (waker engine) (stateIn x) i n v) → Call engine x (setValue i n v) (tells y)
   removes : (i : ℤ) (y : After) → y ≡ afterOf (doRemove (stateIn x) i) → Call engine x (remove i) (tells y)
   signals : (p : ℕ) (y : After) → y ≡ afterOf (doSignal (stateIn x) p) → Call engine x (signal p) (tells y)
@@ -31,6 +32,7 @@ pub data Call (engine : Engine) (x : Host) : Event → Replied → Type 0 where
   queries : (i : ℤ) (n : ℕ) (q : Queried) → q ≡ queriedOf (doQuery (stateIn x) i n) → Call engine x (query i n) (shows x q)
   setsAll : (i : ℤ) (bytes : List ℕ) (y : After) → y ≡ afterOf (doSetAll (waker engine) (stateIn x) i bytes) → Call engine x (setAll i bytes) (tells y)
   readsAll : (i : ℤ) (lent : List ℕ) → length lent ≡ 3 * semaphores → (q : Reading) (left : List ℕ) → (q, left) ≡ readOut lent (doReadAll (stateIn x) i) → Call engine x (readAll i) (reads x q left)
+  clocks : (now : ℕ) (y : After) → y ≡ afterOf (doClock (stateIn x) now) → Call engine x (clock now) (tells y)
   runs : (e : declared.Event) (bytes : List ℕ) (y : Replied) → y ≡ repliedOf (eventOf e bytes) (event (waker engine) (stateIn x) (eventOf e bytes)) → Call engine x (eventOf e bytes) y
 
 -- calls in a row, "each handed the state its engine's last one returned"
@@ -89,3 +91,4 @@ pub record CallsAgree (events : List Event) (quick plain : List Replied) : Type 
   pub last : lastHost (hostOf freshState) quick ≡ lastHost (hostOf freshState) plain
   pub ends : lastHost (hostOf freshState) quick ≡ hostOf (run Plain freshState events .last)
   pub stuck : All (Stuck (run Plain freshState events .last)) (run Plain freshState events .last .queue)
+  pub inTime : All (InTime (run Plain freshState events .last)) (run Plain freshState events .last .queue)

@@ -1,10 +1,10 @@
-// The service: nine events over a host that the caller holds and lends, and a whole set shown at once.
+// The service: ten events over a host that the caller holds and lends, and a whole set shown at once.
 //
 // An event is lent the host's row of bytes and its undo adjustments, and a list for the wakings; it tells its code, its
 // value, its looks, and how many it woke. Its promise is one equation with the event's definition in the crate model,
 // refusals included: of the host after it, the list, and what it tells, for every host that is fresh or came back from an
-// event. Create, remove, signal, query and read all wake nobody by a rule; operate, set value, set all and exit go by the engine
-// they are handed. `run` does any of them. `query_set` shows what a query of each semaphore of a set would, by one walk over its
+// event. Create, remove, signal, query, read all and the clock wake nobody by a rule; operate, set value, set all and exit go by the
+// engine they are handed. `run` does any of them. `query_set` shows what a query of each semaphore of a set would, by one walk over its
 // sleepers; the event read all has its numbers from it.
 mod events;
 mod waiting;
@@ -15,6 +15,7 @@ ghost use Rattle.model.specs.Waking.{waker};
 ghost use Rattle.model.specs.Events.{event as eventIn, eventOf};
 ghost use Rattle.host.specs.Holding.{Held, hostIn, stateIn};
 ghost use Rattle.service.specs.After.{repliedIn, repliedOf, numbersAfter};
+pub use events::clock::clock;
 pub use events::create::create;
 pub use events::exit::exit;
 pub use events::operate::operate;
@@ -56,7 +57,17 @@ pub fn run(
         Event::Operate {
             process,
             identifier,
-        } => Reply::Told(operate(host, adjustments, list, engine, process, identifier, bytes)),
+            wait,
+        } => Reply::Told(operate(
+            host,
+            adjustments,
+            list,
+            engine,
+            process,
+            identifier,
+            wait,
+            bytes,
+        )),
         Event::SetValue {
             identifier,
             number,
@@ -78,5 +89,6 @@ pub fn run(
             clear(list);
             Reply::Read(read_all(&*host, &*adjustments, numbers, identifier))
         }
+        Event::Clock { time } => Reply::Told(clock(host, adjustments, list, time)),
     }
 }

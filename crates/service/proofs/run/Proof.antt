@@ -73,6 +73,12 @@ clear-requires-2 c κs = search needs
 read-all-requires : tie.Need-read-all-requires
 read-all-requires c κs = search needs
 
+enum-known-event-10 : tie.Need-enum-known-event-10
+enum-known-event-10 c = search needs
+
+clock-requires : tie.Need-clock-requires
+clock-requires c κs = search needs
+
 returns : tie.Need-returns
 unfolding event
 returns c = let g = c .before .before .before .before .before .event .given .1 in (rw g (ap tells (c .create .ensures)), rw g)
@@ -117,6 +123,10 @@ returns-9 c =
     let r = rw e at (c .read-all .ensures) in
     (rw g (read x (s .pre) _ _ long r (c .before .before .before .before .clear2 .ensures)), rw g (left-is x (s .pre) _ _ long r))
 
+returns-10 : tie.Need-returns-10
+unfolding event
+returns-10 c = let g = c .before .before .before .before .before .event10 .given .1 in (rw g (ap tells (c .clock .ensures)), rw g)
+
 pub run-spec : {M : Type 1} → statement M
 run-spec =
     tie.close
@@ -141,6 +151,8 @@ run-spec =
     enum-known-event-9
     clear-requires-2
     read-all-requires
+    enum-known-event-10
+    clock-requires
     returns
     returns-2
     returns-3
@@ -149,4 +161,5 @@ run-spec =
     returns-6
     returns-7
     returns-8
-    returns-9)
+    returns-9
+    returns-10)

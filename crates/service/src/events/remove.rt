@@ -14,7 +14,8 @@ use model::Set;
 use model::Told;
 use model::WAKING_BYTES;
 use service_checks::check_set;
-use service_queue::remove_set;
+use service_queue::Ending;
+use service_queue::end_all;
 use service_table::clear_slot;
 use service_waking::Tally;
 use std::num::wrapping_add_u16;
@@ -44,7 +45,7 @@ pub fn remove(
     };
     put_set(&mut *host, slot, set);
     clear_slot(&mut *host, adjustments, slot);
-    let woken = remove_set(host, wakings, slot);
+    let woken = end_all(host, wakings, Ending::Removal(slot));
     told(Tally {
         looks: 0,
         woken: woken,

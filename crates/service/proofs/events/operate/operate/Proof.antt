@@ -8,12 +8,13 @@ use lib.Dec.{eqb}
 use lib.ListN.{length}
 use mir.Facts.{toZ-ofZ}
 use Rattle.model.specs.Limits.{semaphores}
+use Rattle.model.specs.State.{Sleeper}
 use Rattle.model.specs.Operation.{operationsOf}
 use Rattle.model.specs.Marks.{namedBy}
 use Rattle.model.specs.Checks.{slotOf, checkOperate}
 use Rattle.model.specs.Look.{valuesOf, adjustmentsOf, applied}
 use Rattle.model.specs.Events.{call, doOperate}
-use Rattle.host.specs.Holding.{Host, hostIn, stateIn, tableIn}
+use Rattle.host.specs.Holding.{Host, hostIn, stateIn, tableIn, timeIn}
 use Rattle.judging.specs.Named.{namedWithin}
 use Rattle.judging.proofs.NamedLaws.{named-within}
 use Rattle.judging.proofs.WalkLaws.{walked}
@@ -24,7 +25,7 @@ use Rattle.service_table.proofs.WrittenLaws.{sized-good, copies-applied}
 use Rattle.service_waking.specs.Lent.{JudgedAs, treated}
 use Rattle.service_waking.proofs.LookLaws.{values-in, undo-read, judged-as}
 use Rattle.service.proofs.EventLaws.{held-invariant, held-row, held-seated, refused-after, begun, begun-ready}
-use Rattle.service.proofs.events.operate.operate.Proof.Laws.{call-process, call-numbered, call-room, call-awake, call-few, done-lent, done-ready, done-after, sleep-after, again-after, range-after}
+use Rattle.service.proofs.events.operate.operate.Proof.Laws.{call-process, call-numbered, call-room, call-awake, call-few, done-lent, done-ready, done-after, again-after, at-once-after, range-after, sleep-after}
 use borrow.Author.Needs.{needs}
 use Rattle.service.proofs.events.operate.operate.Statement.{statement}
 use Rattle.service.proofs.events.operate.operate.Tie as tie
@@ -32,6 +33,10 @@ use Rattle.service.proofs.events.operate.operate.Tie as tie
 -- the host that is lent
 abbrev x : tie.Start → Host
 x s = hostIn (s .args .host .now) (s .args .adjustments .now)
+
+-- the call that is made
+abbrev made : tie.Start → Sleeper
+made s = call (timeIn (x s .row)) (s .args .process) (s .args .identifier) (s .args .wait) (s .args .bytes .now)
 
 -- where the function was entered, where the array was checked, and where the slot and the copies were read
 abbrev start : tie.After-check-operate → tie.Start
@@ -69,15 +74,15 @@ undo-are : (c : tie.After-adjustments-of) → let s = start (passed (c .before .
 undo-are c =
     let e = c .before .before .before .before .before in
     let s = start (passed e) in
-    let p = call-process (x s) (s .pre) _ _ _ (none e) in
+    let p = call-process (x s) (s .pre) _ _ (s .args .wait) _ (none e) in
     rw (slot (c .before .before .before .before)) at (c .adjustments-of .ensures)
     ∙ undo-read (tableIn (x s)) (s .args .process) _ (held-invariant (x s) (s .pre) .good .adjustments) (p .least) (p .most) (slot-within (s .args .identifier))
 
 -- .. and as the array left them
-judged : (c : tie.After-judge) → let s = entered c in JudgedAs (tableIn (x s)) (call (s .args .process) (s .args .identifier) (s .args .bytes .now)) (c .judge .result .outcome) (c .judge .result .position) (record { values = c .judge .last .0; adjustments = c .judge .last .1 .0 })
+judged : (c : tie.After-judge) → let s = entered c in JudgedAs (tableIn (x s)) (made s) (c .judge .result .outcome) (c .judge .result .position) (record { values = c .judge .last .0; adjustments = c .judge .last .1 .0 })
 judged c =
     let s = entered c in
-    judged-as (tableIn (x s)) (call (s .args .process) (s .args .identifier) (s .args .bytes .now)) _ _ _ _ _ _ refl (values-are (c .before .before .before .before .before)) (undo-are (c .before .before .before)) (c .judge .ensures)
+    judged-as (tableIn (x s)) (made s) _ _ _ _ _ _ refl (values-are (c .before .before .before .before .before)) (undo-are (c .before .before .before)) (c .judge .ensures)
 
 sizes : (c : tie.After-judge) → (length (c .judge .last .0) ≡ semaphores) × (length (c .judge .last .1 .0) ≡ semaphores)
 sizes c =
@@ -91,7 +96,7 @@ passes : (c : tie.After-judge) → let s = entered c in checkOperate (stateIn (x
 passes c = none (slotted c .before)
 
 numbered : (c : tie.After-judge) → Numbered (entered c .args .bytes .now)
-numbered c = let s = entered c in call-numbered (x s) (s .pre) _ _ _ (passes c)
+numbered c = let s = entered c in call-numbered (x s) (s .pre) _ _ (s .args .wait) _ (passes c)
 
 names : (c : tie.After-judge) → passed (slotted c .before) .check-operate .result .names ≡ namedBy 0 (operationsOf (entered c .args .bytes .now))
 names c =
@@ -104,14 +109,14 @@ abbrev done : tie.After-apply → tie.After-judge
 done c = c .before .before .before .before .before
 
 table : (c : tie.After-apply) → let s = entered (done c) in
-    hostIn (c .apply .last .0) (c .apply .last .1 .0) ≡ tabled (x s) (applied (tableIn (x s)) (call (s .args .process) (s .args .identifier) (s .args .bytes .now)) (record { values = done c .judge .last .0; adjustments = done c .judge .last .1 .0 }))
+    hostIn (c .apply .last .0) (c .apply .last .1 .0) ≡ tabled (x s) (applied (tableIn (x s)) (made s) (record { values = done c .judge .last .0; adjustments = done c .judge .last .1 .0 }))
 table c =
     let j = done c in
     let s = entered j in
     let n = sizes j in
     rw (slot (slotted j)) at (c .apply .ensures)
-    ∙ copies-applied (x s) (sized-good (x s) (held-invariant (x s) (s .pre) .good)) (call (s .args .process) (s .args .identifier) (s .args .bytes .now)) (slot-within (s .args .identifier))
-    (call-process (x s) (s .pre) _ _ _ (passes j)) (numbered j) _ (n .0) (n .1) _ (names j)
+    ∙ copies-applied (x s) (sized-good (x s) (held-invariant (x s) (s .pre) .good)) (made s) (slot-within (s .args .identifier))
+    (call-process (x s) (s .pre) _ _ (s .args .wait) _ (passes j)) (numbered j) _ (n .0) (n .1) _ (names j)
 
 -- the list was cleared
 abbrev cleared : tie.After-judge → tie.After-clear
@@ -163,8 +168,8 @@ wake-requires c κs =
     let j = done a in
     let s = entered j in
     let e = a .before .before .before .enum-told .given .1 in
-    let lent = done-lent (x s) (s .pre) _ _ _ (passes j) (s .args .engine) _ _ _ (judged j) e (table a) (cleared j .clear .ensures) in
-    (slot-is (slotted j), (begun-ready (c .nobody .ensures) lent (done-ready (x s) (s .pre) _ _ _ (passes j) (s .args .engine) _ _ _ (judged j) e), omega (arith, c .nobody .ensures .0)))
+    let lent = done-lent (x s) (s .pre) _ _ (s .args .wait) _ (passes j) (s .args .engine) _ _ _ (judged j) e (table a) (cleared j .clear .ensures) in
+    (slot-is (slotted j), (begun-ready (c .nobody .ensures) lent (done-ready (x s) (s .pre) _ _ (s .args .wait) _ (passes j) (s .args .engine) _ _ _ (judged j) e), omega (arith, c .nobody .ensures .0)))
 
 told-requires : tie.Need-told-requires
 told-requires c κs = search needs
@@ -172,56 +177,74 @@ told-requires c κs = search needs
 enum-told-2 : tie.Need-enum-told-2
 enum-told-2 c = search needs
 
-fall-asleep-requires : tie.Need-fall-asleep-requires
-fall-asleep-requires c κs =
-    let j = c .before .before .before in
-    let s = entered j in
-    let z = passes j in
-    (held-row (x s) (s .pre), (rw (slot (slotted j)) (call-room (x s) (s .pre) _ _ _ z), (call-awake (x s) (s .pre) _ _ _ z, (call-few (x s) (s .pre) _ _ _ z, (omega (arith, slot-is (slotted j)), names j)))))
+at-once-requires : tie.Need-at-once-requires
+at-once-requires c κs = search needs
 
 not-done-requires : tie.Need-not-done-requires
 not-done-requires c κs = search needs
 
-enum-told-3 : tie.Need-enum-told-3
-enum-told-3 c = search needs
+-- asleep: where the array was judged, and its outcome
+abbrev sleeps : tie.After-at-once → tie.After-judge
+sleeps c = c .before .before .before
+
+returns-2 : tie.Need-returns-2
+returns-2 c =
+    let a = c .before .before in
+    let j = sleeps a in
+    let s = entered j in
+    at-once-after (x s) (s .pre) _ _ (s .args .wait) _ (passes j) (s .args .engine) _ _ _ (judged j) (a .before .enum-told2 .given .1) (sym (a .at-once .ensures) ∙ c .before .if2 .taken) (cleared j .clear .ensures) (c .not-done .ensures)
+
+fall-asleep-requires : tie.Need-fall-asleep-requires
+fall-asleep-requires c κs =
+    let j = sleeps (c .before .before) in
+    let s = entered j in
+    let z = passes j in
+    (held-row (x s) (s .pre), (rw (slot (slotted j)) (call-room (x s) (s .pre) _ _ (s .args .wait) _ z), (call-awake (x s) (s .pre) _ _ (s .args .wait) _ z, (call-few (x s) (s .pre) _ _ (s .args .wait) _ z, (omega (arith, slot-is (slotted j)), names j)))))
 
 not-done-requires-2 : tie.Need-not-done-requires-2
 not-done-requires-2 c κs = search needs
 
-enum-told-4 : tie.Need-enum-told-4
-enum-told-4 c = search needs
+enum-told-3 : tie.Need-enum-told-3
+enum-told-3 c = search needs
 
 not-done-requires-3 : tie.Need-not-done-requires-3
 not-done-requires-3 c κs = search needs
 
-returns-2 : tie.Need-returns-2
-returns-2 c =
+enum-told-4 : tie.Need-enum-told-4
+enum-told-4 c = search needs
+
+not-done-requires-4 : tie.Need-not-done-requires-4
+not-done-requires-4 c κs = search needs
+
+returns-3 : tie.Need-returns-3
+returns-3 c =
     let n = c .before .before in
     let a = n .before .before .before .before .before in
     let j = done a in
     let s = entered j in
     let e = a .before .before .before .enum-told .given .1 in
-    let lent = done-lent (x s) (s .pre) _ _ _ (passes j) (s .args .engine) _ _ _ (judged j) e (table a) (cleared j .clear .ensures) in
-    done-after (x s) (s .pre) _ _ _ (passes j) (s .args .engine) _ _ _ (judged j) e (slot (slotted j)) (values-are (j .before .before .before .before .before)) (sizes j .0)
+    let lent = done-lent (x s) (s .pre) _ _ (s .args .wait) _ (passes j) (s .args .engine) _ _ _ (judged j) e (table a) (cleared j .clear .ensures) in
+    done-after (x s) (s .pre) _ _ (s .args .wait) _ (passes j) (s .args .engine) _ _ _ (judged j) e (slot (slotted j)) (values-are (j .before .before .before .before .before)) (sizes j .0)
     (begun (n .nobody .ensures) lent (treated (s .args .engine) _ _) (c .before .wake .ensures)) (n .before .before .before .before .differing-mask .ensures) (c .told .ensures)
-
-returns-3 : tie.Need-returns-3
-returns-3 c =
-    let j = c .before .before .before .before .before in
-    let s = entered j in
-    sleep-after (x s) (s .pre) _ _ _ (passes j) (s .args .engine) _ _ _ (judged j) (c .before .before .before .enum-told2 .given .1) (rw (slot (slotted j)) at (c .before .fall-asleep .ensures)) (cleared j .clear .ensures) (c .not-done .ensures)
 
 returns-4 : tie.Need-returns-4
 returns-4 c =
-    let j = c .before .before .before in
+    let e = c .before .before .before in
+    let j = sleeps (e .before) in
     let s = entered j in
-    again-after (x s) (s .pre) _ _ _ (passes j) (s .args .engine) _ _ _ (judged j) (c .before .enum-told3 .given .1) (cleared j .clear .ensures) (c .not-done2 .ensures)
+    sleep-after (x s) (s .pre) _ _ (s .args .wait) _ (passes j) (s .args .engine) _ _ _ (judged j) (e .before .before .enum-told2 .given .1) (sym (e .before .at-once .ensures) ∙ e .if2 .left) (rw (slot (slotted j)) at (c .before .fall-asleep .ensures)) (cleared j .clear .ensures) (c .not-done2 .ensures)
 
 returns-5 : tie.Need-returns-5
 returns-5 c =
     let j = c .before .before .before in
     let s = entered j in
-    range-after (x s) (s .pre) _ _ _ (passes j) (s .args .engine) _ _ _ (judged j) (c .before .enum-told4 .given .1) (cleared j .clear .ensures) (c .not-done3 .ensures)
+    again-after (x s) (s .pre) _ _ (s .args .wait) _ (passes j) (s .args .engine) _ _ _ (judged j) (c .before .enum-told3 .given .1) (cleared j .clear .ensures) (c .not-done3 .ensures)
+
+returns-6 : tie.Need-returns-6
+returns-6 c =
+    let j = c .before .before .before in
+    let s = entered j in
+    range-after (x s) (s .pre) _ _ (s .args .wait) _ (passes j) (s .args .engine) _ _ _ (judged j) (c .before .enum-told4 .given .1) (cleared j .clear .ensures) (c .not-done4 .ensures)
 
 pub operate-spec : {M : Type 1} → statement M
 operate-spec =
@@ -242,13 +265,16 @@ operate-spec =
     wake-requires
     told-requires
     enum-told-2
-    fall-asleep-requires
+    at-once-requires
     not-done-requires
-    enum-told-3
-    not-done-requires-2
-    enum-told-4
-    not-done-requires-3
     returns-2
+    fall-asleep-requires
+    not-done-requires-2
+    enum-told-3
+    not-done-requires-3
+    enum-told-4
+    not-done-requires-4
     returns-3
     returns-4
-    returns-5)
+    returns-5
+    returns-6)

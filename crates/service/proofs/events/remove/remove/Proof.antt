@@ -59,8 +59,8 @@ put-set-requires c κs = search needs
 clear-slot-requires : tie.Need-clear-slot-requires
 clear-slot-requires c κs = rw (slot (c .before .before .before .before .before .before .before)) (slot-within _)
 
-remove-set-requires : tie.Need-remove-set-requires
-remove-set-requires c κs =
+end-all-requires : tie.Need-end-all-requires
+end-all-requires c κs =
     let s = c .before .before .before .before .before .before .before .before .before .before .before .before .before .before .before .before in
     (removed-row (x s) (s .pre) _ (none (c .before .before .before .before .before .before .before .before .before .before .before)) (slot (c .before .before .before .before .before .before .before .before .before .before)) (generation (c .before .before .before .before .before .before .before)) (c .before .before .before .before .before .put-set .ensures) (c .before .before .clear-slot .ensures), c .before .before .before .before .before .before .before .before .before .before .before .before .before .before .clear .ensures)
 
@@ -70,7 +70,7 @@ told-requires c κs = search needs
 returns-2 : tie.Need-returns-2
 returns-2 c =
     let s = c .before .before .before .before .before .before .before .before .before .before .before .before .before .before .before .before .before .before in
-    let gone = c .before .remove-set .ensures in
+    let gone = c .before .end-all .ensures in
     removed (x s) (s .pre) _ (none (c .before .before .before .before .before .before .before .before .before .before .before .before .before)) (slot (c .before .before .before .before .before .before .before .before .before .before .before .before)) (generation (c .before .before .before .before .before .before .before .before .before)) (c .before .before .before .before .before .before .before .put-set .ensures) (c .before .before .before .before .clear-slot .ensures)
     (gone .0) (gone .1 .0) (gone .1 .1) (c .told .ensures)
 
@@ -87,6 +87,6 @@ remove-spec =
     wrapping-add-u16-requires
     put-set-requires
     clear-slot-requires
-    remove-set-requires
+    end-all-requires
     told-requires
     returns-2)

@@ -20,12 +20,12 @@ use Rattle.model.specs.Runs.{All, none, also}
 use Rattle.model.specs.Invariant.{Distinct, apart}
 use Rattle.model.proofs.QueueLaws.{awake}
 use Rattle.host.specs.Parts.{Row}
-use Rattle.host.specs.Holding.{Host, withQueue, hostOf, setsIn, queueIn, tableIn, stateIn, Held}
+use Rattle.host.specs.Holding.{Host, withQueue, hostOf, queueIn, tableIn, stateIn, Held}
 use Rattle.wakings.specs.Wakings.{Place, placeOf, listOf}
 use Rattle.wakings.proofs.ListLaws.{noted}
 use Rattle.service_waking.proofs.LentLaws.{table-same}
 use Rattle.service.specs.After.{telling, afterOf}
-use Rattle.service.proofs.EventLaws.{held-invariant, host-of, goes-on}
+use Rattle.service.proofs.EventLaws.{stateWith, held-invariant, host-of, goes-on}
 
 module _ (p : ℕ) (code : ℤ) where
   ended-awake : (q : List Sleeper) → All (λ (s : Sleeper). s .process ≢ p) q → endedWith code (isOf p) q ≡ []
@@ -50,7 +50,7 @@ module _ (x : Host) (k : Held x) (p : ℕ) (z : checkProcess p ≡ 0) where
   rest = keep (notOf p) (queueIn (x .row))
 
   without-it : {r : Row} → r ≡ withQueue (x .row) (keep (notOf p) (queueIn (x .row)))
-      → record { row = r; adjustments = x .adjustments } ≡ hostOf (record { sets = setsIn (x .row); table = tableIn x; queue = keep (notOf p) (queueIn (x .row)) })
+      → record { row = r; adjustments = x .adjustments } ≡ hostOf (stateWith x (tableIn x) (keep (notOf p) (queueIn (x .row))))
   without-it er = ap (λ (y : Row). record { row = y; adjustments = x .adjustments }) (er ∙ sym (table-same (x .row) (x .adjustments) rest)) ∙ host-of x k (tableIn x) rest
 
   signalled : (w : List Waking) {r : Row} {l : List Place} {told : Told} → endedWith (pos 4) (isOf p) (queueIn (x .row)) ≡ w → r ≡ withQueue (x .row) (keep (notOf p) (queueIn (x .row)))
@@ -58,8 +58,8 @@ module _ (x : Host) (k : Held x) (p : ℕ) (z : checkProcess p ≡ 0) where
   unfolding doSignal
   signalled w {r} {l} {told} ew er el et =
       ap₂ (λ (y : Host) (a : List Place). record { host = y; wakings = a; told = told }) (without-it er) el
-      ∙ ap (λ (u : Told). record { host = hostOf (record { sets = setsIn (x .row); table = tableIn x; queue = rest }); wakings = listOf w; told = u }) et
-      ∙ ap (λ (a : List Waking). record { host = hostOf (record { sets = setsIn (x .row); table = tableIn x; queue = rest }); wakings = listOf a; told = telling (pos 0) 0 0 (length a) }) (sym ew)
+      ∙ ap (λ (u : Told). record { host = hostOf (stateWith x (tableIn x) rest); wakings = listOf w; told = u }) et
+      ∙ ap (λ (a : List Waking). record { host = hostOf (stateWith x (tableIn x) rest); wakings = listOf a; told = telling (pos 0) 0 0 (length a) }) (sym ew)
       ∙ ap afterOf (goes-on (stateIn x) _ z)
 
   pub signal-awake : {r : Row} {l : List Place} {told : Told} → asleep p (queueIn (x .row)) ≡ false → r ≡ withQueue (x .row) (keep (notOf p) (queueIn (x .row)))
