@@ -1,9 +1,10 @@
 /* Vairolent: a service for System V semaphore sets whose every answer is proved.
  *
- * It is a library, not a kernel. The caller keeps a host and hands it to each of nine events (create, operate, set
- * value, set all, remove, signal, exit, query, read all); an event tells who sleeps, who is woken, with which code and
- * in which order, and which operation stopped whom, and the caller acts on it. No function waits, allocates, calls the
- * system or keeps anything of its own. Two threads that share a host take turns by a lock of their own.
+ * It is a library, not a kernel. The caller keeps a host and hands it to each of ten events (create, operate, set
+ * value, set all, remove, signal, exit, clock, query, read all); an event tells who sleeps, who is woken, with which
+ * code and in which order, and which operation stopped whom, and the caller acts on it. No function waits, allocates,
+ * calls the system or keeps anything of its own: the time, too, is what the caller tells. Two threads that share a host
+ * take turns by a lock of their own.
  *
  * Link with libvairolent.a. An answer's code is 0 (done), VAIROLENT_ASLEEP, or a number that <errno.h> names. */
 #ifndef VAIROLENT_H
@@ -30,31 +31,34 @@ enum {
     VAIROLENT_ALL = 255,           /* the mask of all processes: process p has bit p-1 */
     VAIROLENT_ASLEEP = -1,         /* the code of a call that sleeps; its position names the operation that stopped */
     VAIROLENT_OPERATION_BYTES = 6, /* an operation: the bytes of a struct sembuf */
-    VAIROLENT_ROW_BYTES = 1685,    /* the bytes of a host's row */
+    VAIROLENT_ROW_BYTES = 1821,    /* the bytes of a host's row */
     VAIROLENT_ADJUSTMENTS = 256    /* the undo adjustments of a host */
 };
 
+/* The last time that can be told, in milliseconds. */
+#define VAIROLENT_TIME_MAX UINT64_C(9223372036854775807)
+
 /* Which operation of an array decided, by its position from 0, if one did. There is one where judging did not let the
  * array through: with the VAIROLENT_ASLEEP, EAGAIN or ERANGE of an operate, and the EAGAIN or ERANGE of a waking. There
- * is none where the array is done, where a check before judging refuses it, in EIDRM and EINTR, and in any other event,
- * the ERANGE of a set value or of a set all included. */
+ * is none where the array is done, where a check before judging refuses it, in EIDRM, EINTR and the EAGAIN of a wait
+ * that is over, and in any other event, the ERANGE of a set value or of a set all included. */
 struct vairolent_position {
     bool there;
     uint8_t at; /* 0 to 31; 0 if there is none */
 };
 
-/* A sleeper that an event ended, and with which code: 0 its array was done; EAGAIN, an operation that has to sleep
- * has IPC_NOWAIT; ERANGE, a value or an adjustment would leave its range; EIDRM, its set was removed; EINTR, a
- * signal. The position is of the operation that now decided, which need not be the one at which the call went to
- * sleep. */
+/* A sleeper that an event ended, and with which code: 0 its array was done; EAGAIN with a position, an operation that
+ * has to sleep has IPC_NOWAIT; EAGAIN without one, its wait is over; ERANGE, a value or an adjustment would leave its
+ * range; EIDRM, its set was removed; EINTR, a signal. The position is of the operation that now decided, which need not
+ * be the one at which the call went to sleep. */
 struct vairolent_waking {
     uint8_t process;
     uint8_t code;
     struct vairolent_position position;
 };
 
-/* All that the service holds: the sets and their sleepers in a row of bytes, the undo adjustments, and the wakings
- * of the last event, with zeros behind them.
+/* All that the service holds: the sets, their sleepers and the time last told in a row of bytes, the undo adjustments,
+ * and the wakings of the last event, with zeros behind them.
  *
  * The premise of every event: the host handed in is as vairolent_fresh or the last event left it, byte for byte;
  * nothing checks that when the program runs, and of any other host nothing is promised. A copy of a host is a host. */
@@ -65,7 +69,7 @@ struct vairolent_host {
 };
 
 /* What an event tells. A refused event tells its code, the position if an operation decided, and zeros; it wakes
- * nobody, and leaves sets, undo adjustments and sleepers exactly as they stood. */
+ * nobody, and leaves sets, undo adjustments, sleepers and time exactly as they stood. */
 struct vairolent_told {
     int32_t code;   /* 0, VAIROLENT_ASLEEP, or why the event is refused */
     uint32_t value; /* a create's: the identifier of its set; 0 of every other event */
@@ -118,19 +122,32 @@ struct sembuf;
 /* The limits of the archive. They are this header's, unless the two are not of one build. */
 struct vairolent_limits vairolent_limits(void);
 
-/* A fresh host: four free slots, every number and adjustment 0, no sleepers. */
+/* A fresh host: four free slots, every number and adjustment 0, no sleepers, and time 0. */
 struct vairolent_host vairolent_fresh(void);
 
-/* The nine events; read all is vairolent_query_set. Each has a function of the archive, NAME_in, whose promise is
- * proved; it takes the parts of a host, which lie apart from each other and from the operations or values. NAME takes a
- * whole host and hands its parts on. Operations and values are the caller's: they are read while the call runs, and
- * neither written nor kept.
+/* The ten events; read all is vairolent_query_set, and an operate has a wait or none. Each has a function of the
+ * archive, NAME_in, whose promise is proved; it takes the parts of a host, which lie apart from each other and from the
+ * operations or values. NAME takes a whole host and hands its parts on. Operations and values are the caller's: they
+ * are read while the call runs, and neither written nor kept.
  *
  * How sleepers are woken: those of the set whose arrays name a semaphore whose value changed or was set are judged
  * again, oldest first. One that no longer sleeps is woken, with 0 and its array applied (it is then the last process of
  * all that the array names), or with EAGAIN or ERANGE; then those who name a semaphore whose value it changed are to be
  * judged too, and it begins again with the oldest, until nobody is left to be judged. So nobody sleeps on who could
  * finish. */
+
+/* Operations or values as the archive takes them: of none the pointer may be null here, and is not there. */
+static inline const uint8_t *vairolent_bytes(const void *first, size_t count)
+{
+    static const uint8_t none = 0;
+    return count == 0 ? &none : (const uint8_t *)first;
+}
+
+/* How many bytes they have. Every number over the most is answered alike, so that they are counted without overflow. */
+static inline size_t vairolent_byte_count(size_t count, size_t most, size_t each)
+{
+    return (count <= most ? count : most + 1) * each;
+}
 
 /* Makes a set of 1 to 8 semaphores with value 0 in the lowest free slot. The masks say which processes may read it
  * (an operation with amount 0) and alter it (any other). The value told is its identifier: slot + 4 x generation,
@@ -162,13 +179,27 @@ struct vairolent_told vairolent_operate_in(uint8_t *row, int16_t *adjustments, s
 static inline struct vairolent_told vairolent_operate(struct vairolent_host *host, uint8_t process, int32_t identifier,
                                                       const struct sembuf *operations, size_t count)
 {
-    /* Every number over the limit is answered alike, so that the bytes are counted without overflow; of no operations
-     * the pointer may be null here, and is not there. */
-    static const uint8_t none = 0;
-    const uint8_t *bytes = count == 0 ? &none : (const uint8_t *)operations;
-    size_t counted = count <= VAIROLENT_OPERATIONS ? count : VAIROLENT_OPERATIONS + 1;
-    return vairolent_operate_in(host->row, host->adjustments, host->wakings, process, identifier, bytes,
-                                counted * VAIROLENT_OPERATION_BYTES);
+    return vairolent_operate_in(host->row, host->adjustments, host->wakings, process, identifier,
+                                vairolent_bytes(operations, count),
+                                vairolent_byte_count(count, VAIROLENT_OPERATIONS, VAIROLENT_OPERATION_BYTES));
+}
+
+/* An operate with a wait in milliseconds, as semtimedop does it. All is as above, until the process would sleep: then
+ * it sleeps until it is woken, or until vairolent_clock tells a time that is at or above its start plus its wait. Its
+ * start is the time last told when it goes to sleep; no look changes it. The longest wait is a wait as any other: who
+ * would wait for ever calls vairolent_operate.
+ * Refused as above, and where the process would sleep and the wait is 0: EAGAIN, with the position of the operation
+ * that stops. */
+struct vairolent_told vairolent_operate_within_in(uint8_t *row, int16_t *adjustments, struct vairolent_waking *wakings,
+                                                  uint8_t process, int32_t identifier, uint32_t wait,
+                                                  const uint8_t *operations, size_t bytes);
+static inline struct vairolent_told vairolent_operate_within(struct vairolent_host *host, uint8_t process,
+                                                             int32_t identifier, const struct sembuf *operations,
+                                                             size_t count, uint32_t wait)
+{
+    return vairolent_operate_within_in(host->row, host->adjustments, host->wakings, process, identifier, wait,
+                                       vairolent_bytes(operations, count),
+                                       vairolent_byte_count(count, VAIROLENT_OPERATIONS, VAIROLENT_OPERATION_BYTES));
 }
 
 /* Sets the value of a semaphore, forgets all undo adjustments of it, and wakes sleepers, even if the value is the same.
@@ -192,12 +223,8 @@ struct vairolent_told vairolent_set_all_in(uint8_t *row, int16_t *adjustments, s
 static inline struct vairolent_told vairolent_set_all(struct vairolent_host *host, int32_t identifier,
                                                       const int32_t *values, size_t count)
 {
-    /* As in vairolent_operate: every number over the limit is answered alike, and no values may be a null pointer. */
-    static const uint8_t none = 0;
-    const uint8_t *bytes = count == 0 ? &none : (const uint8_t *)values;
-    size_t counted = count <= VAIROLENT_SEMAPHORES ? count : VAIROLENT_SEMAPHORES + 1;
-    return vairolent_set_all_in(host->row, host->adjustments, host->wakings, identifier, bytes,
-                                counted * sizeof *values);
+    return vairolent_set_all_in(host->row, host->adjustments, host->wakings, identifier, vairolent_bytes(values, count),
+                                vairolent_byte_count(count, VAIROLENT_SEMAPHORES, sizeof *values));
 }
 
 /* Removes a set and frees its slot. Its sleepers are woken with EIDRM, oldest first.
@@ -226,6 +253,19 @@ struct vairolent_told vairolent_exit_in(uint8_t *row, int16_t *adjustments, stru
 static inline struct vairolent_told vairolent_exit(struct vairolent_host *host, uint8_t process)
 {
     return vairolent_exit_in(host->row, host->adjustments, host->wakings, process);
+}
+
+/* Tells the present time, in milliseconds since any moment that the caller keeps to; 0 was told before the first. Each
+ * sleeper with a wait whose start plus wait, as an exact sum, is at or below it is woken with EAGAIN, oldest first over
+ * all sets, and nothing of its array is done. Nobody is judged for it, and nobody else woken: no value changed. Between
+ * two times that are told no wait ends, and who is past its own can still be woken with 0; so tell the time before the
+ * events of a new moment, and when a wait runs out.
+ * Refused: EINVAL a time below the last told, or above VAIROLENT_TIME_MAX; it is not told then. */
+struct vairolent_told vairolent_clock_in(uint8_t *row, int16_t *adjustments, struct vairolent_waking *wakings,
+                                         uint64_t time);
+static inline struct vairolent_told vairolent_clock(struct vairolent_host *host, uint64_t time)
+{
+    return vairolent_clock_in(host->row, host->adjustments, host->wakings, time);
 }
 
 /* Shows a semaphore. The host stays as it is.

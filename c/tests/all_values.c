@@ -22,17 +22,6 @@ static struct vairolent_told set_bytes(int32_t set, const uint8_t *values, size_
     return vairolent_set_all_in(host.row, host.adjustments, host.wakings, set, values, bytes);
 }
 
-/* Was it refused with this code, with nobody woken and nothing of the host changed? */
-static void refused(const char *what, struct vairolent_host before, struct vairolent_told told, int32_t code)
-{
-    static const uint8_t nobody[] = {0};
-    told_is(what, told, code, NONE);
-    want(what, (long long)(told.value + told.looks + told.woken), 0);
-    want(what, memcmp(host.row, before.row, sizeof host.row), 0);
-    want(what, memcmp(host.adjustments, before.adjustments, sizeof host.adjustments), 0);
-    wakings_are(what, COUNTED(nobody));
-}
-
 /* Every number of bytes: only those of as many values as the set has are taken; any other number is EINVAL, whole or
  * not, before a value is ERANGE. */
 static void numbers_of_bytes(void)
@@ -46,12 +35,12 @@ static void numbers_of_bytes(void)
             int fits = bytes == (size_t)VALUE * count;
             busy(count);
             struct vairolent_host before = host;
-            refused("so many bytes of -1", before, set_bytes(0, ones, bytes), fits ? ERANGE : EINVAL);
-            refused("so many bytes of -1, at no set", before, set_bytes(4, ones, bytes), EINVAL);
+            refused("so many bytes of -1", before, set_bytes(0, ones, bytes), fits ? ERANGE : EINVAL, NONE);
+            refused("so many bytes of -1, at no set", before, set_bytes(4, ones, bytes), EINVAL, NONE);
             if (fits)
                 told_is("as many values", set_bytes(0, zeros, bytes), 0, NONE);
             else
-                refused("so many bytes", before, set_bytes(0, zeros, bytes), EINVAL);
+                refused("so many bytes", before, set_bytes(0, zeros, bytes), EINVAL, NONE);
         }
     }
 }
@@ -63,11 +52,12 @@ static void numbers_of_values(void)
     for (uint8_t count = 1; count <= MOST; count++) {
         busy(count);
         struct vairolent_host before = host;
-        refused("no values", before, vairolent_set_all(&host, 0, NULL, 0), EINVAL);
-        refused("more than memory holds", before, vairolent_set_all(&host, 0, zeros, SIZE_MAX / 2 + 1 + count), EINVAL);
+        refused("no values", before, vairolent_set_all(&host, 0, NULL, 0), EINVAL, NONE);
+        refused("more than memory holds", before, vairolent_set_all(&host, 0, zeros, SIZE_MAX / 2 + 1 + count), EINVAL,
+                NONE);
         for (size_t values = 1; values <= 10 * MOST; values++) {
             if (values != count)
-                refused("so many values", before, vairolent_set_all(&host, 0, zeros, values), EINVAL);
+                refused("so many values", before, vairolent_set_all(&host, 0, zeros, values), EINVAL, NONE);
         }
         told_is("as many values", vairolent_set_all(&host, 0, zeros, count), 0, NONE);
     }
@@ -84,8 +74,8 @@ static void ranges(void)
             for (size_t i = 0; i < sizeof wrong / sizeof wrong[0]; i++) {
                 int32_t values[MOST] = {0, VAIROLENT_VALUE_MAX, 6, 7};
                 values[place] = wrong[i];
-                refused("out of range", before, vairolent_set_all(&host, 0, values, count), ERANGE);
-                refused("out of range, at no set", before, vairolent_set_all(&host, -1, values, count), EINVAL);
+                refused("out of range", before, vairolent_set_all(&host, 0, values, count), ERANGE, NONE);
+                refused("out of range, at no set", before, vairolent_set_all(&host, -1, values, count), EINVAL, NONE);
             }
         }
     }

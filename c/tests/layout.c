@@ -161,6 +161,8 @@ static void positions_of_calls(void)
     told_is("asleep at the last", vairolent_operate(&host, 3, 0, COUNTED(most)), VAIROLENT_ASLEEP, LAST);
     told_is("EAGAIN at the only one", operate(4, 0, 0, -1, IPC_NOWAIT), EAGAIN, 0);
     told_is("EAGAIN at the second", vairolent_operate(&host, 4, 0, COUNTED(nowait)), EAGAIN, 1);
+    told_is("EAGAIN of a wait of 0", vairolent_operate_within(&host, 4, 0, COUNTED(stops), 0), EAGAIN, 2);
+    told_is("asleep with a wait", vairolent_operate_within(&host, 5, 0, COUNTED(stops), 1), VAIROLENT_ASLEEP, 2);
     told_is("ERANGE of a value", vairolent_operate(&host, 4, 0, COUNTED(value)), ERANGE, 3);
     told_is("ERANGE of an adjustment", vairolent_operate(&host, 4, 0, COUNTED(adjustment)), ERANGE, 2);
 }
@@ -188,6 +190,10 @@ static void no_positions(void)
     told_is("all values", vairolent_set_all(&host, 0, zeros, 1), 0, NONE);
     told_is("a signal", vairolent_signal(&host, 1), 0, NONE);
     waking_is("the interrupted", 0, 1, EINTR, NONE);
+    told_is("asleep with a wait", take_within(1, 0, 1), VAIROLENT_ASLEEP, 0);
+    told_is("a time", vairolent_clock(&host, 1), 0, NONE);
+    waking_is("the sleeper whose wait is over", 0, 1, EAGAIN, NONE);
+    told_is("a time that is refused", vairolent_clock(&host, 0), EINVAL, NONE);
     told_is("an exit", vairolent_exit(&host, 1), 0, NONE);
     told_is("asleep once more", operate(1, 0, 0, -1, 0), VAIROLENT_ASLEEP, 0);
     told_is("a removal", vairolent_remove(&host, 0), 0, NONE);
@@ -290,10 +296,12 @@ static void edges(void)
     want("the largest value", vairolent_set_value(&host, 0, 0, VAIROLENT_VALUE_MAX).code, 0);
     want("a value too large", vairolent_set_value(&host, 0, 0, VAIROLENT_VALUE_MAX + 1).code, ERANGE);
     want("over the largest value", operate(1, 0, 0, 1, 0).code, ERANGE);
+    want("the last time", vairolent_clock(&host, VAIROLENT_TIME_MAX).code, 0);
+    want("a time too late", vairolent_clock(&host, VAIROLENT_TIME_MAX + 1).code, EINVAL);
 }
 
-/* An array by its bytes: none, and those that are no whole operations, 199 of them too, are EINVAL before too many are
- * E2BIG. All of them are zeros, so that what is judged goes through. */
+/* An array by its bytes, with a wait or none: none, and those that are no whole operations, 199 of them too, are EINVAL
+ * before too many are E2BIG. All of them are zeros, so that what is judged goes through. */
 static void whole_operations(void)
 {
     enum { MOST = 255 * VAIROLENT_OPERATION_BYTES };
@@ -308,6 +316,8 @@ static void whole_operations(void)
         struct vairolent_told told =
             vairolent_operate_in(host.row, host.adjustments, host.wakings, 1, 0, zeros, bytes);
         told_is("so many bytes", told, wanted, NONE);
+        told = vairolent_operate_within_in(host.row, host.adjustments, host.wakings, 1, 0, 0, zeros, bytes);
+        told_is("so many bytes, with a wait", told, wanted, NONE);
     }
     want("199 bytes",
          vairolent_operate_in(host.row, host.adjustments, host.wakings, 1, 0, zeros, 199).code, EINVAL);
@@ -367,6 +377,8 @@ static void widths(void)
     want("no set 0 as a whole", vairolent_query_set(&host, 0).code, EINVAL);
     want("the whole set, by it", vairolent_query_set(&host, set).count, 1);
     want("an operate by it", operate(1, set, 0, 300, 0).code, 0);
+    want("an operate with a wait by it", take_within(1, set, 0).code, 0);
+    want("one is given back", operate(1, set, 0, 1, 0).code, 0);
     want("the value, by it", vairolent_query(&host, set, 0).value, 300);
     want("no semaphore 256", vairolent_query(&host, set, 256).code, EINVAL);
     want("no semaphore 256 to set", vairolent_set_value(&host, set, 256, 1).code, EINVAL);

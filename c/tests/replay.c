@@ -8,7 +8,7 @@
 #include "vairolent.h"
 
 enum { FILE_MAX = 65535, HEAD = 2, ENTRY = 4 };
-enum { CREATE = 1, OPERATE, SET_VALUE, REMOVE, SIGNAL, EXIT, QUERY, SET_ALL = 10, READ_ALL, KINDS };
+enum { CREATE = 1, OPERATE, SET_VALUE, REMOVE, SIGNAL, EXIT, QUERY, OPERATE_WITHIN, CLOCK, SET_ALL, READ_ALL, KINDS };
 enum { BAD_TABLE = 201, BAD_OFFSET, BAD_KIND, BAD_BODY };
 
 /* The most operations or values that a body counts. */
@@ -28,6 +28,8 @@ static const struct shape shapes[KINDS] = {
     [SIGNAL] = {2, 0},
     [EXIT] = {2, 0},
     [QUERY] = {7, 0},
+    [OPERATE_WITHIN] = {11, VAIROLENT_OPERATION_BYTES},
+    [CLOCK] = {9, 0},
     [SET_ALL] = {6, sizeof(int32_t)},
     [READ_ALL] = {5, 0},
 };
@@ -39,9 +41,9 @@ static size_t length;
 static struct vairolent_host host;
 
 /* The number in so many bytes, little-endian. */
-static uint32_t number_at(const uint8_t *at, int bytes)
+static uint64_t number_at(const uint8_t *at, int bytes)
 {
-    uint32_t number = 0;
+    uint64_t number = 0;
     for (int i = bytes; i-- > 0;)
         number = number << 8 | at[i];
     return number;
@@ -127,12 +129,17 @@ static void check_set(struct vairolent_queried_set set, uint16_t number, struct 
              set.zero_masks[number] == seen.zero_mask);
 }
 
-/* The operations are copied to where a struct sembuf may lie. */
+/* With a wait or none. The operations are copied to where a struct sembuf may lie. */
 static struct vairolent_told operate(const uint8_t *body)
 {
     struct sembuf operations[COUNTED_MAX];
-    memcpy(operations, body + 7, VAIROLENT_OPERATION_BYTES * body[6]);
-    return vairolent_operate(&host, body[1], signed_at(body + 2), operations, body[6]);
+    const uint8_t *first = body + shapes[body[0]].bytes;
+    uint8_t process = body[1], count = first[-1];
+    int32_t identifier = signed_at(body + 2);
+    memcpy(operations, first, VAIROLENT_OPERATION_BYTES * count);
+    if (body[0] == OPERATE)
+        return vairolent_operate(&host, process, identifier, operations, count);
+    return vairolent_operate_within(&host, process, identifier, operations, count, (uint32_t)number_at(body + 6, 4));
 }
 
 /* The values are copied to where an int32_t may lie. */
@@ -150,6 +157,7 @@ static struct vairolent_told tell(const uint8_t *body)
     case CREATE:
         return vairolent_create(&host, body[1], body[2], body[3]);
     case OPERATE:
+    case OPERATE_WITHIN:
         return operate(body);
     case SET_VALUE:
         return vairolent_set_value(&host, signed_at(body + 1), (uint16_t)number_at(body + 5, 2), signed_at(body + 7));
@@ -157,6 +165,8 @@ static struct vairolent_told tell(const uint8_t *body)
         return vairolent_remove(&host, signed_at(body + 1));
     case SIGNAL:
         return vairolent_signal(&host, body[1]);
+    case CLOCK:
+        return vairolent_clock(&host, number_at(body + 1, 8));
     case SET_ALL:
         return set_all(body);
     default:

@@ -40,6 +40,13 @@ static inline struct vairolent_told operate(uint8_t process, int32_t set, unsign
     return vairolent_operate(&host, process, set, &one, 1);
 }
 
+/* One that takes 1 from semaphore 0, with a wait. */
+static inline struct vairolent_told take_within(uint8_t process, int32_t set, uint32_t wait)
+{
+    struct sembuf take = OPERATION(0, -1, 0);
+    return vairolent_operate_within(&host, process, set, &take, 1, wait);
+}
+
 /* An operation that decided: its position, or none. */
 enum { NONE = -1 };
 
@@ -72,6 +79,18 @@ static inline void wakings_are(const char *what, const uint8_t *wanted, size_t c
     memcpy(bytes, host.wakings, sizeof bytes);
     memcpy(all, wanted, count);
     want(what, memcmp(bytes, all, sizeof all), 0);
+}
+
+/* Was it refused with this code, perhaps at a position, with nobody woken and nothing of the host changed? */
+static inline void refused(const char *what, struct vairolent_host before, struct vairolent_told told, int32_t code,
+                           int position)
+{
+    static const uint8_t nobody[] = {0};
+    told_is(what, told, code, position);
+    want(what, (long long)(told.value + told.looks + told.woken), 0);
+    want(what, memcmp(host.row, before.row, sizeof host.row), 0);
+    want(what, memcmp(host.adjustments, before.adjustments, sizeof host.adjustments), 0);
+    wakings_are(what, COUNTED(nobody));
 }
 
 #endif

@@ -7,6 +7,7 @@ use lib.IntN.{pos}
 use lib.ListN.{length}
 use Rattle.model.specs.declared.Engine.the-variants.{Quick}
 use Rattle.model.specs.declared.Position.the-variants.{At}
+use Rattle.model.specs.declared.Wait.the-variants.{Endless}
 use Rattle.model.specs.State.{State, freshState, clearRows, cleared}
 use Rattle.host.specs.Holding.{Host, hostOf, stateIn, Held}
 use Rattle.host.proofs.HeldLaws.{state-back, held-of}
@@ -17,8 +18,9 @@ use Rattle.model.specs.Judge.{nextValue, nextAdjustment, step, goOn, judgeFrom,
 use Rattle.model.specs.Look.{valuesOf, adjustmentsOf, look, lastsAfter, applied, after}
 use Rattle.model.specs.Marks.{unmark, marked, namedBy, differing, mine, maskOf}
 use Rattle.model.specs.Waking.{without, finish, plainRound, quickRound, plain, quick, waker}
+use Rattle.model.specs.Clock.{atOnce}
 use Rattle.model.specs.Checks.{identifierOf, slotOf, namesSet, noProcess, asleep, numberTooHigh, permitted, freeFrom, checkCreate, checkOperate, checkNumber, inRange, checkSetValue, checkSet, checkProcess}
-use Rattle.model.specs.Events.{Result, create, operate, clearNumber, assigned, cut, undoAll, exited, keep, endedWith, doCreate, operated, doOperate, doSetValue, doRemove, treat, treatFrom, touchedFrom, doExit, doQuery, event}
+use Rattle.model.specs.Events.{Result, create, operate, clearNumber, assigned, cut, undoAll, exited, keep, endedWith, doCreate, wouldSleep, operated, doOperate, doSetValue, doRemove, treat, treatFrom, touchedFrom, doExit, doQuery, event}
 
 -- one off semaphore 0, and one back
 abbrev pub take : List ℕ
@@ -32,10 +34,10 @@ abbrev pub created : Result
 created = event (waker Quick) freshState (create 1 255 255)
 
 abbrev pub slept : Result
-slept = event (waker Quick) (created .state) (operate 1 (pos 0) take)
+slept = event (waker Quick) (created .state) (operate 1 (pos 0) Endless take)
 
 abbrev pub given : Result
-given = event (waker Quick) (slept .state) (operate 2 (pos 0) give)
+given = event (waker Quick) (slept .state) (operate 2 (pos 0) Endless give)
 
 pub after-create : Reached (created .state)
 after-create = came start Quick (create 1 255 255)
@@ -57,29 +59,29 @@ pub is-created : {x : Host} {a : After} → x ≡ hostOf freshState → a ≡ af
 unfolding event
 is-created e r = r ∙ ap (λ (s : State). afterOf (doCreate s 1 255 255)) (state start e)
 
-pub is-slept : {x : Host} {a : After} → x ≡ hostOf (created .state) → a ≡ afterOf (doOperate (waker Quick) (stateIn x) 1 (pos 0) take) → a ≡ afterOf slept
+pub is-slept : {x : Host} {a : After} → x ≡ hostOf (created .state) → a ≡ afterOf (doOperate (waker Quick) (stateIn x) 1 (pos 0) Endless take) → a ≡ afterOf slept
 unfolding event
-is-slept e r = r ∙ ap (λ (s : State). afterOf (doOperate (waker Quick) s 1 (pos 0) take)) (state after-create e)
+is-slept e r = r ∙ ap (λ (s : State). afterOf (doOperate (waker Quick) s 1 (pos 0) Endless take)) (state after-create e)
 
-pub is-given : {x : Host} {a : After} → x ≡ hostOf (slept .state) → a ≡ afterOf (doOperate (waker Quick) (stateIn x) 2 (pos 0) give) → a ≡ afterOf given
+pub is-given : {x : Host} {a : After} → x ≡ hostOf (slept .state) → a ≡ afterOf (doOperate (waker Quick) (stateIn x) 2 (pos 0) Endless give) → a ≡ afterOf given
 unfolding event
-is-given e r = r ∙ ap (λ (s : State). afterOf (doOperate (waker Quick) s 2 (pos 0) give)) (state after-sleep e)
+is-given e r = r ∙ ap (λ (s : State). afterOf (doOperate (waker Quick) s 2 (pos 0) Endless give)) (state after-sleep e)
 
 -- ---- what the three events give, computed
 
 pub slept-looks : slept .looks ≡ 0
-unfolding event doCreate operated doOperate doSetValue doRemove treat treatFrom touchedFrom doExit doQuery identifierOf slotOf namesSet noProcess asleep numberTooHigh permitted freeFrom checkCreate checkOperate checkNumber inRange checkSetValue checkSet checkProcess clearRows cleared clearNumber assigned cut undoAll exited keep endedWith waker plain quick plainRound quickRound finish without look lastsAfter applied after valuesOf adjustmentsOf judgeFrom goOn step nextValue nextAdjustment codeOf finishes operationsFrom signed16 isZero unmark marked namedBy differing mine maskOf
+unfolding event doCreate wouldSleep atOnce operated doOperate doSetValue doRemove treat treatFrom touchedFrom doExit doQuery identifierOf slotOf namesSet noProcess asleep numberTooHigh permitted freeFrom checkCreate checkOperate checkNumber inRange checkSetValue checkSet checkProcess clearRows cleared clearNumber assigned cut undoAll exited keep endedWith waker plain quick plainRound quickRound finish without look lastsAfter applied after valuesOf adjustmentsOf judgeFrom goOn step nextValue nextAdjustment codeOf finishes operationsFrom signed16 isZero unmark marked namedBy differing mine maskOf
 slept-looks = refl
 
 -- it stops at its first operation
 pub slept-position : slept .answer .position ≡ At 0
-unfolding event doCreate operated doOperate doSetValue doRemove treat treatFrom touchedFrom doExit doQuery identifierOf slotOf namesSet noProcess asleep numberTooHigh permitted freeFrom checkCreate checkOperate checkNumber inRange checkSetValue checkSet checkProcess clearRows cleared clearNumber assigned cut undoAll exited keep endedWith waker plain quick plainRound quickRound finish without look lastsAfter applied after valuesOf adjustmentsOf judgeFrom goOn step nextValue nextAdjustment codeOf decidedAt finishes operationsFrom signed16 isZero unmark marked namedBy differing mine maskOf
+unfolding event doCreate wouldSleep atOnce operated doOperate doSetValue doRemove treat treatFrom touchedFrom doExit doQuery identifierOf slotOf namesSet noProcess asleep numberTooHigh permitted freeFrom checkCreate checkOperate checkNumber inRange checkSetValue checkSet checkProcess clearRows cleared clearNumber assigned cut undoAll exited keep endedWith waker plain quick plainRound quickRound finish without look lastsAfter applied after valuesOf adjustmentsOf judgeFrom goOn step nextValue nextAdjustment codeOf decidedAt finishes operationsFrom signed16 isZero unmark marked namedBy differing mine maskOf
 slept-position = refl
 
 pub given-looks : given .looks ≡ 1
-unfolding event doCreate operated doOperate doSetValue doRemove treat treatFrom touchedFrom doExit doQuery identifierOf slotOf namesSet noProcess asleep numberTooHigh permitted freeFrom checkCreate checkOperate checkNumber inRange checkSetValue checkSet checkProcess clearRows cleared clearNumber assigned cut undoAll exited keep endedWith waker plain quick plainRound quickRound finish without look lastsAfter applied after valuesOf adjustmentsOf judgeFrom goOn step nextValue nextAdjustment codeOf finishes operationsFrom signed16 isZero unmark marked namedBy differing mine maskOf
+unfolding event doCreate wouldSleep atOnce operated doOperate doSetValue doRemove treat treatFrom touchedFrom doExit doQuery identifierOf slotOf namesSet noProcess asleep numberTooHigh permitted freeFrom checkCreate checkOperate checkNumber inRange checkSetValue checkSet checkProcess clearRows cleared clearNumber assigned cut undoAll exited keep endedWith waker plain quick plainRound quickRound finish without look lastsAfter applied after valuesOf adjustmentsOf judgeFrom goOn step nextValue nextAdjustment codeOf finishes operationsFrom signed16 isZero unmark marked namedBy differing mine maskOf
 given-looks = refl
 
 pub given-wakings : length (given .wakings) ≡ 1
-unfolding event doCreate operated doOperate doSetValue doRemove treat treatFrom touchedFrom doExit doQuery identifierOf slotOf namesSet noProcess asleep numberTooHigh permitted freeFrom checkCreate checkOperate checkNumber inRange checkSetValue checkSet checkProcess clearRows cleared clearNumber assigned cut undoAll exited keep endedWith waker plain quick plainRound quickRound finish without look lastsAfter applied after valuesOf adjustmentsOf judgeFrom goOn step nextValue nextAdjustment codeOf finishes operationsFrom signed16 isZero unmark marked namedBy differing mine maskOf
+unfolding event doCreate wouldSleep atOnce operated doOperate doSetValue doRemove treat treatFrom touchedFrom doExit doQuery identifierOf slotOf namesSet noProcess asleep numberTooHigh permitted freeFrom checkCreate checkOperate checkNumber inRange checkSetValue checkSet checkProcess clearRows cleared clearNumber assigned cut undoAll exited keep endedWith waker plain quick plainRound quickRound finish without look lastsAfter applied after valuesOf adjustmentsOf judgeFrom goOn step nextValue nextAdjustment codeOf finishes operationsFrom signed16 isZero unmark marked namedBy differing mine maskOf
 given-wakings = refl

@@ -5,6 +5,7 @@
 use libc::STDOUT_FILENO;
 use model::Engine;
 use model::WAKING_BYTES;
+use model::Wait;
 use service::create;
 use service::operate;
 
@@ -22,6 +23,7 @@ fn main() {
         Engine::Quick,
         1,
         0,
+        Wait::Endless,
         &take,
     );
     check::expect(asleep.looks == 0);
@@ -32,6 +34,7 @@ fn main() {
         Engine::Quick,
         2,
         0,
+        Wait::Endless,
         &give,
     );
     check::expect(given.woken == 1);

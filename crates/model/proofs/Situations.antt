@@ -13,7 +13,7 @@ use Rattle.model.specs.Values.{signed32, valuesFrom, held}
 use Rattle.model.specs.State.{clearRows, cleared}
 use Rattle.model.specs.Events.{clearNumber, assigned, cut, undoAll, exited, keep, endedWith, doCreate, wouldSleep, operated, doOperate, doSetValue, doRemove, doClock, treat, treatFrom, touchedFrom, doExit, seenAt, doQuery, assignedAll, doSetAll, readAt, readFrom, doReadAll, event}
 use Rattle.model.specs.Runs.{run, All, none, also}
-use Rattle.model.specs.Situations.{Situation, Shows, Holds, situation1, situation2, situation3, situation4, situation5, situation6, situation7, situation8, situation9, situation10, situation11, situation12, situation12b, situation13, situation14, situation15, situation16, situation17, situation18, situation19, situation20, situation21, situation22, table}
+use Rattle.model.specs.Situations.{Situation, Shows, Holds, situation1, situation2, situation3, situation4, situation5, situation6, situation7, situation8, situation9, situation10, situation11, situation12, situation12b, situation13, situation14, situation15, situation16, situation17, situation18, situation19, situation20, situation21, situation22, situation23, situation24, situation25, situation26, situation27, situation28, table}
 
 both : (r : Situation) → Shows Plain r → Shows Quick r → Holds r
 both r p q Plain = p
@@ -45,4 +45,10 @@ situations =
     (also (both situation20 refl refl)
     (also (both situation21 refl refl)
     (also (both situation22 refl refl)
-    none))))))))))))))))))))))
+    (also (both situation23 refl refl)
+    (also (both situation24 refl refl)
+    (also (both situation25 refl refl)
+    (also (both situation26 refl refl)
+    (also (both situation27 refl refl)
+    (also (both situation28 refl refl)
+    none))))))))))))))))))))))))))))

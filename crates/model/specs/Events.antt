@@ -282,13 +282,13 @@ doSignal s p =
     (record { sets = s .sets; table = s .table; queue = keep (notOf p) (s .queue); time = s .time })
     (endedWith (pos 4) (isOf p) (s .queue)))
 
+-- the state at a new time: nobody who is due sleeps on
+abbrev pub atTime : State → ℕ → State
+atTime s now = record { sets = s .sets; table = s .table; queue = keep (notDue now) (s .queue); time = now }
+
 -- "A sleeper whose start plus wait is at or below the new time ends with 11, oldest first, as a listed waking"; "Expiry has no looks."
 unfoldable pub doClock : State → ℕ → Result
-doClock s now =
-    checked (checkClock s now) s
-    (doneWith
-    (record { sets = s .sets; table = s .table; queue = keep (notDue now) (s .queue); time = now })
-    (endedWith (pos 11) (due now) (s .queue)))
+doClock s now = checked (checkClock s now) s (doneWith (atTime s now) (endedWith (pos 11) (due now) (s .queue)))
 
 -- a set is treated if it is live
 unfoldable pub treat : Waker → List Set → ℕ → ℕ → Ended → Ended

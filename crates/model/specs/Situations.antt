@@ -13,7 +13,7 @@ use Rattle.model.specs.declared.Wait.the-variants.{Endless, Milliseconds
 use Rattle.model.specs.State.{State, freeSet, freshTable, freshState}
 use Rattle.model.specs.Waking.{waking}
 use Rattle.model.specs.Events as events
-use Rattle.model.specs.Events.{Event, create, setValue, remove, exit, query, setAll, readAll, Read, Answer, answerAt, answer, nothingSeen, Result}
+use Rattle.model.specs.Events.{Event, create, setValue, remove, exit, query, setAll, readAll, clock, Read, Answer, answerAt, answer, nothingSeen, Result}
 use Rattle.model.specs.Runs.{run}
 
 -- ---- operations and values
@@ -446,6 +446,98 @@ situation22 =
     ∷ answers (query set0 2) (record { code = done; position = Nowhere; value = 5; seen = record { last = 2; increase = 1; zero = 0; increaseMask = 4; zeroMask = 0 }; all = [] })
     ∷ [])
 
+-- 23: a wait ends at exactly start plus wait, and not a millisecond before. Time 1,000; asleep on (0,-1): process 1 for 250, and 2
+-- without a wait. At 1,249 both sleep on, at 1,250 process 1 is ended with 11, and 2 is woken by an operate as ever.
+abbrev pub situation23 : Situation
+situation23 =
+    fresh 1
+    (gives (clock 1000) done
+    ∷ stops (within 250 1 set0 (op 0 (minus 1) none)) asleep 0
+    ∷ stops (operate 2 set0 (op 0 (minus 1) none)) asleep 0
+    ∷ gives (clock 1249) done
+    ∷ reads (readAll set0) (at 0 2 0 ∷ [])
+    ∷ wakes (clock 1250) 0 0 (woken 1 (pos 11) ∷ [])
+    ∷ reads (readAll set0) (at 0 1 0 ∷ [])
+    ∷ wakes (operate 1 set0 (op 0 (pos 1) none)) 1 1 (woken 2 (pos 0) ∷ [])
+    ∷ [])
+
+-- 24: of two that are due at once the older is ended first, though it sleeps at a later set and its wait ends later. Process 3 at set
+-- 1 for 500, then 2 at set 1 for 601, then 1 at set 0 for 200; time 600 ends 3 and 1, and 601 ends 2.
+abbrev pub situation24 : Situation
+situation24 =
+    fresh 1
+    (tells (create 1 255 255) 1
+    ∷ stops (within 500 3 set1 (op 0 (minus 1) none)) asleep 0
+    ∷ stops (within 601 2 set1 (op 0 (minus 1) none)) asleep 0
+    ∷ stops (within 200 1 set0 (op 0 (minus 1) none)) asleep 0
+    ∷ wakes (clock 600) 0 0 (woken 3 (pos 11) ∷ woken 1 (pos 11) ∷ [])
+    ∷ reads (readAll set0) (at 0 0 0 ∷ [])
+    ∷ reads (readAll set1) (at 0 1 0 ∷ [])
+    ∷ wakes (clock 601) 0 0 (woken 2 (pos 11) ∷ [])
+    ∷ [])
+
+-- 25: past its wait, but with no such time told, a sleeper sleeps on and can be woken with 0; a look leaves the start as it was.
+-- Process 1 asleep on (0,-1) and 3 on (0,-2), both for 100, at time 0. At 99 an operate wakes 1, which is out of the queue when 100 is
+-- told; 3 was looked at, and ends then.
+abbrev pub situation25 : Situation
+situation25 =
+    fresh 1
+    (stops (within 100 1 set0 (op 0 (minus 1) none)) asleep 0
+    ∷ stops (within 100 3 set0 (op 0 (minus 2) none)) asleep 0
+    ∷ gives (clock 99) done
+    ∷ wakes (operate 2 set0 (op 0 (pos 1) none)) 2 2 (woken 1 (pos 0) ∷ [])
+    ∷ wakes (clock 100) 0 0 (woken 3 (pos 11) ∷ [])
+    ∷ sees (query set0 0) 0 1
+    ∷ [])
+
+-- 26: a wait of 0 that would sleep is 11 at once, at the operation that stopped, and changes nothing. It is asked last: a done array
+-- is done, IPC_NOWAIT is 11 and a range 34 as ever, and a check refuses before it.
+abbrev pub situation26 : Situation
+situation26 =
+    fresh 2
+    (stops (within 0 1 set0 (op 0 (pos 1) none ++ op 1 (minus 1) none)) (pos 11) 1
+    ∷ gives (within 0 1 set0 (op 0 (pos 1) none)) done
+    ∷ stops (within 0 1 set0 (op 0 (minus 1) none ++ op 1 (pos 0) none ++ op 0 (minus 1) noWait)) (pos 11) 2
+    ∷ stops (within 0 1 set0 (op 0 (pos 32767) none)) (pos 34) 0
+    ∷ gives (within 0 1 set0 (op 1 (minus 1) none ++ op 2 (pos 0) none)) (pos 27)
+    ∷ reads (readAll set0) (at 1 0 0 ∷ at 0 0 0 ∷ [])
+    ∷ gives (clock 0) done
+    ∷ [])
+
+-- 27: a time before the last one told, or above 2^63-1, is 22 and not told; the same time again is accepted. Process 1 asleep for 100
+-- from 1,000 on; 999 is refused, and 2 begins at 1,000 too. Both are ended at 1,100.
+abbrev pub situation27 : Situation
+situation27 =
+    fresh 1
+    (gives (clock 1000) done
+    ∷ stops (within 100 1 set0 (op 0 (minus 1) none)) asleep 0
+    ∷ gives (clock 999) (pos 22)
+    ∷ stops (within 100 2 set0 (op 0 (minus 1) none)) asleep 0
+    ∷ gives (clock 1000) done
+    ∷ gives (clock 9223372036854775808) (pos 22)
+    ∷ gives (clock 18446744073709551615) (pos 22)
+    ∷ gives (clock 1099) done
+    ∷ wakes (clock 1100) 0 0 (woken 1 (pos 11) ∷ woken 2 (pos 11) ∷ [])
+    ∷ gives (clock 9223372036854775807) done
+    ∷ gives (clock 9223372036854775806) (pos 22)
+    ∷ [])
+
+-- 28: start plus wait is an exact sum. From 2^63-2^32 on the largest wait ends at the largest time, 2^63-1, and not before. Begun at
+-- the largest time, a wait of 4,294,967,295 or of 1 is never over: both are woken by a setting.
+abbrev pub situation28 : Situation
+situation28 =
+    fresh 1
+    (gives (clock 9223372032559808512) done
+    ∷ stops (within 4294967295 1 set0 (op 0 (minus 1) none)) asleep 0
+    ∷ gives (clock 9223372036854775806) done
+    ∷ wakes (clock 9223372036854775807) 0 0 (woken 1 (pos 11) ∷ [])
+    ∷ stops (within 4294967295 2 set0 (op 0 (minus 1) none)) asleep 0
+    ∷ stops (within 1 3 set0 (op 0 (minus 1) none)) asleep 0
+    ∷ gives (clock 9223372036854775807) done
+    ∷ gives (clock 18446744073709551615) (pos 22)
+    ∷ wakes (setValue set0 0 (pos 2)) 2 2 (woken 2 (pos 0) ∷ woken 3 (pos 0) ∷ [])
+    ∷ [])
+
 abbrev pub table : List Situation
 table =
     situation1
@@ -471,4 +563,10 @@ table =
     ∷ situation20
     ∷ situation21
     ∷ situation22
+    ∷ situation23
+    ∷ situation24
+    ∷ situation25
+    ∷ situation26
+    ∷ situation27
+    ∷ situation28
     ∷ []

@@ -1,5 +1,5 @@
 -- Bytes past the end of a file, parts of it that go to its end, and thirty-two bits less 2 ^ 32.
-use Prim.Native.Nat.{ℕ, suc, _-_, _<_, _≤_}
+use Prim.Native.Nat.{ℕ, suc, _+_, _-_, _<_, _≤_}
 use mathlib.Core.Path.{_≡_, ap}
 use mathlib.Core.List.{List}
 use native.Mathlib.Omega.{arith}
@@ -7,10 +7,15 @@ use lib.ListN.{length, take, drop, length-drop, List·getD-eq-default}
 use lib.Seq.{take-all}
 use lib.IntN.{pos, negsuc, _-ℤ_}
 use borrow.Author.Tests.{lt-ltb}
-use Rattle.runfile.specs.Fields.{byteAt}
+use Rattle.runfile.specs.Fields.{byteAt, wordAt}
 
 pub past : (file : List ℕ) (at : ℕ) → length file ≤ at → byteAt file at ≡ 0
 past file at h = List·getD-eq-default file 0 h
+
+pub past-word : (file : List ℕ) (at : ℕ) → length file ≤ at → wordAt file at ≡ 0
+unfolding wordAt
+past-word file at h =
+    omega (arith, past file at h, past file (at + 1) (omega arith), past file (at + 2) (omega arith), past file (at + 2 + 1) (omega arith))
 
 -- the part of a file from a position to its end, as code takes it
 abbrev pub rest : List ℕ → ℕ → List ℕ

@@ -3,9 +3,10 @@ use Prim.Native.Nat.{ℕ}
 use mathlib.Core.Path.{_≡_, refl}
 use mathlib.Core.List.{List, [], _∷_}
 use lib.IntN.{pos, negsuc}
-use Rattle.model.specs.Events.{create, operate, setValue, setAll, readAll}
+use Rattle.model.specs.declared.Wait.the-variants.{Endless, Milliseconds}
+use Rattle.model.specs.Events.{create, operate, setValue, setAll, readAll, clock}
 use Rattle.model.specs.Values.{signed32}
-use Rattle.runfile.specs.Fields.{wordAt}
+use Rattle.runfile.specs.Fields.{wordAt, longAt}
 use Rattle.runfile.specs.Table.{countIn, entriesFrom, chains}
 use Rattle.runfile.specs.Body.{fixedOf, eachOf, sizeIn, eventIn, handedIn, handedAt, bodyCode}
 use Rattle.runfile.specs.File.{fileOf, eventsOf, bad, good}
@@ -24,15 +25,15 @@ example =
 whole : fileOf example
     ≡ good
     (create 1 255 255
-    ∷ operate 1 (pos 0) (0 ∷ 0 ∷ 255 ∷ 255 ∷ 0 ∷ 0 ∷ [])
-    ∷ operate 2 (pos 0) (0 ∷ 0 ∷ 1 ∷ 0 ∷ 0 ∷ 0 ∷ [])
+    ∷ operate 1 (pos 0) Endless (0 ∷ 0 ∷ 255 ∷ 255 ∷ 0 ∷ 0 ∷ [])
+    ∷ operate 2 (pos 0) Endless (0 ∷ 0 ∷ 1 ∷ 0 ∷ 0 ∷ 0 ∷ [])
     ∷ [])
 unfolding wordAt signed32 countIn entriesFrom chains fixedOf eachOf sizeIn handedIn eventIn bodyCode fileOf eventsOf
 whole = refl
 
 -- beside the create nothing is handed on, beside the operate its operation
 beside-create : handedAt example 14 ≡ []
-unfolding handedIn eachOf
+unfolding handedIn fixedOf eachOf
 beside-create = refl
 
 beside-operate : handedAt example 18 ≡ 0 ∷ 0 ∷ 255 ∷ 255 ∷ 0 ∷ 0 ∷ []
@@ -49,6 +50,21 @@ negative : fileOf (1 ∷ 0 ∷ 6 ∷ 0 ∷ 11 ∷ 0 ∷ 3 ∷ 255 ∷ 255 ∷ 25
     ≡ good (setValue (negsuc 0) 258 (negsuc 2147483647) ∷ [])
 unfolding wordAt signed32 countIn entriesFrom chains fixedOf eachOf sizeIn handedIn eventIn bodyCode fileOf eventsOf
 negative = refl
+
+-- an operate with the longest wait, and what is handed on beside it; and 2 ^ 63 + 1 told as the time, in a good file too
+waits : List ℕ
+waits =
+    2 ∷ 0 ∷ 10 ∷ 0 ∷ 17 ∷ 0 ∷ 27 ∷ 0 ∷ 9 ∷ 0
+    ∷ 8 ∷ 1 ∷ 4 ∷ 0 ∷ 0 ∷ 0 ∷ 255 ∷ 255 ∷ 255 ∷ 255 ∷ 1 ∷ 0 ∷ 0 ∷ 255 ∷ 255 ∷ 0 ∷ 0
+    ∷ 9 ∷ 1 ∷ 0 ∷ 0 ∷ 0 ∷ 0 ∷ 0 ∷ 0 ∷ 128 ∷ []
+
+timed : fileOf waits ≡ good (operate 1 (pos 4) (Milliseconds 4294967295) (0 ∷ 0 ∷ 255 ∷ 255 ∷ 0 ∷ 0 ∷ []) ∷ clock 9223372036854775809 ∷ [])
+unfolding waits wordAt longAt signed32 countIn entriesFrom chains fixedOf eachOf sizeIn handedIn eventIn bodyCode fileOf eventsOf
+timed = refl
+
+beside-timed : handedAt waits 10 ≡ 0 ∷ 0 ∷ 255 ∷ 255 ∷ 0 ∷ 0 ∷ []
+unfolding waits handedIn fixedOf eachOf
+beside-timed = refl
 
 -- all values of a set to 1 and -1, and what is handed on beside it; and all of it read
 wholes : List ℕ
@@ -96,11 +112,16 @@ setting-fewer : fileOf (1 ∷ 0 ∷ 6 ∷ 0 ∷ 10 ∷ 0 ∷ 10 ∷ 0 ∷ 0 ∷ 
 unfolding countIn entriesFrom chains fixedOf eachOf sizeIn bodyCode fileOf eventsOf
 setting-fewer = refl
 
--- kinds between and behind those that there are
-eight : fileOf (1 ∷ 0 ∷ 6 ∷ 0 ∷ 1 ∷ 0 ∷ 8 ∷ []) ≡ bad 203
+-- an operate with a wait that has no byte for its number, and a time in seven bytes
+timed-short : fileOf (1 ∷ 0 ∷ 6 ∷ 0 ∷ 10 ∷ 0 ∷ 8 ∷ 1 ∷ 0 ∷ 0 ∷ 0 ∷ 0 ∷ 1 ∷ 0 ∷ 0 ∷ 0 ∷ []) ≡ bad 204
 unfolding countIn entriesFrom chains fixedOf eachOf sizeIn bodyCode fileOf eventsOf
-eight = refl
+timed-short = refl
 
+time-short : fileOf (1 ∷ 0 ∷ 6 ∷ 0 ∷ 8 ∷ 0 ∷ 9 ∷ 1 ∷ 0 ∷ 0 ∷ 0 ∷ 0 ∷ 0 ∷ 0 ∷ []) ≡ bad 204
+unfolding countIn entriesFrom chains fixedOf eachOf sizeIn bodyCode fileOf eventsOf
+time-short = refl
+
+-- a kind behind those that there are
 twelve : fileOf (1 ∷ 0 ∷ 6 ∷ 0 ∷ 1 ∷ 0 ∷ 12 ∷ []) ≡ bad 203
 unfolding countIn entriesFrom chains fixedOf eachOf sizeIn bodyCode fileOf eventsOf
 twelve = refl

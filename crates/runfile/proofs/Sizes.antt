@@ -1,35 +1,49 @@
--- The size of a body, and what it hands on, by its kind: a setting, an operate, or another.
-use Prim.Native.Nat.{ℕ, _+_, _*_}
+-- The size of a body, and what it hands on, by its kind: one that has a number, or another.
+use Prim.Native.Nat.{ℕ, _+_, _*_, _≤_, _<_}
 use mathlib.Core.Path.{_≡_, refl}
-use mathlib.Core.Bool.{cond}
+use mathlib.Core.Bool.{Bool, true, false, cond}
 use mathlib.Core.List.{List, []}
+use native.Mathlib.Nat.{mul-le-mul-right}
 use native.Mathlib.Omega.{arith}
 use lib.Dec.{eqb}
 use lib.ListN.{take, drop}
-use borrow.Author.Tests.{ne-eqb}
-use Rattle.model.specs.Limits.{operationBytes, valueBytes}
+use borrow.Author.Tests.{eqb-true, ne-eqb}
+use Rattle.model.specs.Limits.{operationBytes}
 use Rattle.runfile.specs.Fields.{byteAt}
-use Rattle.runfile.specs.Body.{operateKind, operateBytes, setAllKind, setAllBytes, fixedOf, eachOf, kindIn, sizeIn, handedIn}
+use Rattle.runfile.specs.Body.{operateKind, operateWithinKind, setAllKind, fixedOf, eachOf, numberAt, sizeOf, kindIn, numberIn, sizeIn, handedIn}
 
-module _ (body : List ℕ) where
-  module _ (e : kindIn body ≡ setAllKind) where
-    pub setting-size : setAllBytes + valueBytes * byteAt body 5 ≡ sizeIn body
-    unfolding sizeIn fixedOf eachOf
-    setting-size = rw e
+-- what a body has of its operations or values, at most six bytes each, is 1,530 bytes at most
+pub few : {each number : ℕ} → each ≤ operationBytes → number < 256 → each * number < 2048
+few {number = number} e n = omega (arith, mul-le-mul-right number e)
 
-    pub setting-hands : take (valueBytes * byteAt body 5) (drop setAllBytes body) ≡ handedIn body
-    unfolding handedIn fixedOf eachOf
-    setting-hands = rw e
+-- ---- by the kind
 
-  pub operate-hands : kindIn body ≡ operateKind → take (operationBytes * byteAt body 6) (drop operateBytes body) ≡ handedIn body
-  unfolding handedIn fixedOf eachOf
-  operate-hands e = rw e
+module _ (body : List ℕ) {kind : ℕ} (e : kindIn body ≡ kind) where
+  pub size-is : sizeOf kind (byteAt body (numberAt kind)) ≡ sizeIn body
+  unfolding sizeIn
+  size-is = rw e
 
-  module _ (n : kindIn body ≡ setAllKind → ⊥) where
-    pub other-size : fixedOf (kindIn body) + cond (eqb (kindIn body) operateKind) operationBytes 0 * byteAt body 6 ≡ sizeIn body
-    unfolding sizeIn eachOf
-    other-size = rw (ne-eqb (kindIn body) setAllKind n)
+  pub hands : take (eachOf kind * byteAt body (numberAt kind)) (drop (fixedOf kind) body) ≡ handedIn body
+  unfolding handedIn
+  hands = rw e
 
-    pub other-hands : (kindIn body ≡ operateKind → ⊥) → [] ≡ handedIn body
-    unfolding handedIn eachOf
-    other-hands m = rw (ne-eqb (kindIn body) operateKind m, ne-eqb (kindIn body) setAllKind n) (let z : 0 * byteAt body 6 ≡ 0 = omega arith in rw z)
+-- ---- neither a setting nor an operate with a wait
+
+module _ (body : List ℕ) (s : kindIn body ≡ setAllKind → ⊥) (w : kindIn body ≡ operateWithinKind → ⊥) where
+  each-is : eachOf (kindIn body) ≡ cond (eqb (kindIn body) operateKind) operationBytes 0
+  unfolding eachOf
+  each-is = rw (ne-eqb (kindIn body) setAllKind s, ne-eqb (kindIn body) operateWithinKind w)
+
+  pub other-size : fixedOf (kindIn body) + cond (eqb (kindIn body) operateKind) operationBytes 0 * byteAt body 6 ≡ sizeIn body
+  unfolding sizeIn fixedOf
+  other-size = rw each-is (by (eqb (kindIn body) operateKind) refl)
+    where
+      by : (b : Bool) → eqb (kindIn body) operateKind ≡ b
+          → fixedOf (kindIn body) + cond (eqb (kindIn body) operateKind) operationBytes 0 * byteAt body 6
+          ≡ fixedOf (kindIn body) + cond (eqb (kindIn body) operateKind) operationBytes 0 * numberIn body
+      by true e = rw (eqb-true (kindIn body) operateKind e)
+      by false e = rw e (omega arith)
+
+  pub other-hands : (kindIn body ≡ operateKind → ⊥) → [] ≡ handedIn body
+  unfolding handedIn
+  other-hands n = rw (each-is, ne-eqb (kindIn body) operateKind n) (let z : 0 * numberIn body ≡ 0 = omega arith in rw z)

@@ -2,16 +2,17 @@
 -- name ends in `At` the file and that place.
 --
 -- A new kind has its two numbers here, a line in `fixedOf` and one in `eventIn`; where bytes of the body are handed on beside
--- its event, it is in `eachOf` and `numberAt` too.
-use Prim.Native.Nat.{ℕ, zero, suc, _+_, _*_}
+-- its event, it is in `eachOf` too.
+use Prim.Native.Nat.{ℕ, zero, suc, _+_, _*_, _-_}
 use mathlib.Core.Bool.{cond}
 use mathlib.Core.List.{List, [], _∷_}
 use lib.Dec.{eqb}
 use lib.IntN.{pos}
 use lib.ListN.{take, drop}
+use Rattle.model.specs.declared.Wait.the-variants.{Endless, Milliseconds}
 use Rattle.model.specs.Limits.{operationBytes, valueBytes}
-use Rattle.model.specs.Events.{Event, create, operate, setValue, remove, signal, exit, query, setAll, readAll}
-use Rattle.runfile.specs.Fields.{byteAt, halfAt, signedAt}
+use Rattle.model.specs.Events.{Event, create, operate, setValue, remove, signal, exit, query, setAll, readAll, clock}
+use Rattle.runfile.specs.Fields.{byteAt, halfAt, wordAt, longAt, signedAt}
 
 -- ---- the kinds, in the order of the table in "The run file": the number of each, and the bytes of its body. An operate has
 -- more bytes, for its operations, and a setting for its values.
@@ -58,6 +59,18 @@ queryKind = 7
 abbrev pub queryBytes : ℕ
 queryBytes = 7
 
+abbrev pub operateWithinKind : ℕ
+operateWithinKind = 8
+
+abbrev pub operateWithinBytes : ℕ
+operateWithinBytes = 11
+
+abbrev pub clockKind : ℕ
+clockKind = 9
+
+abbrev pub clockBytes : ℕ
+clockBytes = 9
+
 abbrev pub setAllKind : ℕ
 setAllKind = 10
 
@@ -80,20 +93,23 @@ fixedOf kind =
     (cond (eqb kind signalKind) signalBytes
     (cond (eqb kind exitKind) exitBytes
     (cond (eqb kind queryKind) queryBytes
+    (cond (eqb kind operateWithinKind) operateWithinBytes
+    (cond (eqb kind clockKind) clockBytes
     (cond (eqb kind setAllKind) setAllBytes
     (cond (eqb kind readAllKind) readAllBytes
-    0))))))))
+    0))))))))))
 
 -- "number of operations 1, six bytes each", "number of values 1, each value 4 signed": the bytes of each; no other kind has any
 unfoldable pub eachOf : ℕ → ℕ
 eachOf kind =
     cond (eqb kind operateKind) operationBytes
+    (cond (eqb kind operateWithinKind) operationBytes
     (cond (eqb kind setAllKind) valueBytes
-    0)
+    0))
 
 -- where their number stands: right before the first of them
 abbrev pub numberAt : ℕ → ℕ
-numberAt kind = cond (eqb kind setAllKind) 5 6
+numberAt kind = fixedOf kind - 1
 
 -- the bytes of a body, by its kind and the number of its operations or values
 abbrev pub sizeOf : ℕ → ℕ → ℕ
@@ -117,20 +133,23 @@ handedIn body = take (eachOf (kindIn body) * numberIn body) (drop (fixedOf (kind
 
 -- "1 create: count, read mask, alter mask (1 byte each). 2 operate: process 1, identifier 4 signed, number of operations 1, six
 -- bytes each. 3 set value: identifier 4, number 2, value 4 signed. 4 remove: identifier 4. 5 signal, 6 exit: process 1. 7 query:
--- identifier 4, number 2." "Kind 10 is identifier 4, number of values 1, each value 4 signed; kind 11 is identifier 4." No good
--- file has another kind; what stands for its event is never run.
+-- identifier 4, number 2." "The file gets kinds 8 (as kind 2, the wait in 4 bytes before the number) and 9 (time, 8 bytes
+-- unsigned)." "Kind 10 is identifier 4, number of values 1, each value 4 signed; kind 11 is identifier 4." No good file has another
+-- kind; what stands for its event is never run.
 unfoldable pub eventIn : List ℕ → Event
 eventIn body =
     cond (eqb (kindIn body) createKind) (create (byteAt body 1) (byteAt body 2) (byteAt body 3))
-    (cond (eqb (kindIn body) operateKind) (operate (byteAt body 1) (signedAt body 2) (handedIn body))
+    (cond (eqb (kindIn body) operateKind) (operate (byteAt body 1) (signedAt body 2) Endless (handedIn body))
     (cond (eqb (kindIn body) setValueKind) (setValue (signedAt body 1) (halfAt body 5) (signedAt body 7))
     (cond (eqb (kindIn body) removeKind) (remove (signedAt body 1))
     (cond (eqb (kindIn body) signalKind) (signal (byteAt body 1))
     (cond (eqb (kindIn body) exitKind) (exit (byteAt body 1))
     (cond (eqb (kindIn body) queryKind) (query (signedAt body 1) (halfAt body 5))
+    (cond (eqb (kindIn body) operateWithinKind) (operate (byteAt body 1) (signedAt body 2) (Milliseconds (wordAt body 6)) (handedIn body))
+    (cond (eqb (kindIn body) clockKind) (clock (longAt body 1))
     (cond (eqb (kindIn body) setAllKind) (setAll (signedAt body 1) (handedIn body))
     (cond (eqb (kindIn body) readAllKind) (readAll (signedAt body 1))
-    (query (pos 0) 0)))))))))
+    (query (pos 0) 0)))))))))))
 
 -- ---- in a file
 

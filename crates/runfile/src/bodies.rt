@@ -1,23 +1,27 @@
 // The bodies: the kinds with their sizes, and the size, the code and the event of a body.
 //
 // A new kind has two constants, and an arm in `fixed` and in `event_at`; if a number in it tells how much it has, it is in
-// `each`, `size_at` and `handed_at` too. What it means is in specs/Body.antt, and it is an event of the crate model.
+// `size_at` and `handed_at` too. What it means is in specs/Body.antt, and it is an event of the crate model.
 ghost use mathlib.Core.Path.{_≡_};
 ghost use mathlib.Core.Bool.{cond};
-ghost use Prim.Native.Nat.{_+_, _*_};
+ghost use Prim.Native.Nat.{_+_, _*_, _-_, _<_, _≤_};
 ghost use lib.Dec.{eqb};
+ghost use lib.ListN.{take, drop};
 ghost use lib.IntN.{pos};
 ghost use Rattle.model.specs.Limits.{operationBytes};
 ghost use Rattle.model.specs.Events.{eventOf};
+ghost use Rattle.runfile.specs.Fields.{byteAt, signedAt};
 ghost use Rattle.runfile.specs.Body.{operateKind, fixedOf, sizeAt, bodyCode, eventAt, handedAt};
-use crate::fields::behind;
 use crate::fields::byte_at;
 use crate::fields::first;
 use crate::fields::half_at;
+use crate::fields::long_at;
 use crate::fields::signed_at;
+use crate::fields::word_at;
 use model::Event;
 use model::OPERATION_BYTES;
 use model::VALUE_BYTES;
+use model::Wait;
 
 // Each kind, and the bytes of its body. An operate has more bytes, for its operations, and a setting for its values.
 const CREATE: u8 = 1;
@@ -48,6 +52,14 @@ const QUERY: u8 = 7;
 
 const QUERY_BYTES: u8 = 7;
 
+const OPERATE_WITHIN: u8 = 8;
+
+const OPERATE_WITHIN_BYTES: u8 = 11;
+
+const CLOCK: u8 = 9;
+
+const CLOCK_BYTES: u8 = 9;
+
 const SET_ALL: u8 = 10;
 
 const SET_ALL_BYTES: u8 = 6;
@@ -68,25 +80,56 @@ fn fixed(kind: u8) -> u8
         SIGNAL => SIGNAL_BYTES,
         EXIT => EXIT_BYTES,
         QUERY => QUERY_BYTES,
+        OPERATE_WITHIN => OPERATE_WITHIN_BYTES,
+        CLOCK => CLOCK_BYTES,
         SET_ALL => SET_ALL_BYTES,
         READ_ALL => READ_ALL_BYTES,
         _ => 0,
     }
 }
 
-// The bytes of one operation, 0 if the kind has none.
+// The bytes of one operation of an operate without a wait; 0 of another kind.
 fn each(kind: u8) -> usize
     ensures { λ r. ⌜ r ≡ cond (eqb kind operateKind) operationBytes 0 ⌝ }
 {
     if kind == OPERATE { OPERATION_BYTES } else { 0 }
 }
 
-// The bytes of a body but a setting's, by its kind and its number of operations. As a sum of two choices between constants it needs
-// no jump, which a choice that has the product in one of its arms does.
+// The bytes of a body that is neither an operate with a wait nor a setting, by its kind and its number of operations. As a sum of
+// two choices between constants it needs no jump, which a choice that has the product in one of its arms does.
 fn size_of(kind: u8, number: u8) -> usize
     ensures { λ r. ⌜ r ≡ fixedOf kind + cond (eqb kind operateKind) operationBytes 0 * number ⌝ }
 {
     (fixed(kind) as usize) + each(kind) * (number as usize)
+}
+
+// The number of operations or values in a body that has so many bytes before them: the last of these bytes.
+fn number(body: &[u8], before: u8) -> u8
+    requires { ⌜ 0 < before ⌝ }
+    ensures { λ r. ⌜ r ≡ byteAt (now (body .entry)) (before - 1) ⌝ }
+{
+    byte_at(body, (before - 1) as usize)
+}
+
+// The bytes of a body that has so many before its operations or values, and so many for each of them.
+fn counted(body: &[u8], before: u8, each: usize) -> usize
+    requires { ⌜ (0 < before) × (each ≤ operationBytes) ⌝ }
+    ensures { λ r. ⌜ r ≡ before + each * byteAt (now (body .entry)) (before - 1) ⌝ }
+{
+    (before as usize) + each * (number(body, before) as usize)
+}
+
+// The operations or values of such a body, as far as it goes.
+fn items(body: &[u8], before: u8, each: usize) -> &[u8]
+    requires { ⌜ (0 < before) × (each ≤ operationBytes) ⌝ }
+    ensures { λ r. ⌜ now r ≡ take (each * byteAt (now (body .entry)) (before - 1)) (drop before (now (body .entry))) ⌝ }
+{
+    let start = before as usize;
+    if body.len() < start {
+        return first(body, 0);
+    }
+    let rest = &body[start..];
+    first(rest, each * (number(body, before) as usize))
 }
 
 // The bytes that are due to the body at a position, by its kind and number, 0 if there is no such kind.
@@ -98,11 +141,13 @@ pub fn size_at(file: &[u8], at: usize) -> usize
     }
     let body = &file[at..];
     let kind = body[0];
-    // A setting is told apart first: one more choice in the sum, and in where the number stands, would cost every body.
-    if kind == SET_ALL {
-        return (SET_ALL_BYTES as usize) + VALUE_BYTES * (byte_at(body, 5) as usize);
+    // The two that have their number elsewhere are told apart first: a choice more in the sum, and in where the number stands,
+    // would cost every body.
+    match kind {
+        OPERATE_WITHIN => counted(body, OPERATE_WITHIN_BYTES, OPERATION_BYTES),
+        SET_ALL => counted(body, SET_ALL_BYTES, VALUE_BYTES),
+        _ => size_of(kind, number(body, OPERATE_BYTES)),
     }
-    size_of(kind, byte_at(body, 6))
 }
 
 // The code of a body at a position, of so many bytes.
@@ -129,6 +174,17 @@ fn no_event() -> Event
     }
 }
 
+// The event of an operate's body, with its wait.
+fn operate_in(body: &[u8], wait: Wait) -> Event
+    ensures { λ r. ⌜ r ≡ Event.Operate (byteAt (now (body .entry)) 1) (signedAt (now (body .entry)) 2) wait ⌝ }
+{
+    Event::Operate {
+        process: byte_at(body, 1),
+        identifier: signed_at(body, 2),
+        wait: wait,
+    }
+}
+
 // The event of the body at a position. The operations of an operate, or the values of a setting, stand beside it.
 pub fn event_at(file: &[u8], at: usize) -> Event
     ensures { λ r. ⌜ eventOf r (handedAt (now (file .entry)) at) ≡ eventAt (now (file .entry)) at ⌝ }
@@ -143,10 +199,7 @@ pub fn event_at(file: &[u8], at: usize) -> Event
             read: byte_at(body, 2),
             alter: byte_at(body, 3),
         },
-        OPERATE => Event::Operate {
-            process: byte_at(body, 1),
-            identifier: signed_at(body, 2),
-        },
+        OPERATE => operate_in(body, Wait::Endless),
         SET_VALUE => Event::SetValue {
             identifier: signed_at(body, 1),
             number: half_at(body, 5),
@@ -164,6 +217,10 @@ pub fn event_at(file: &[u8], at: usize) -> Event
         QUERY => Event::Query {
             identifier: signed_at(body, 1),
             number: half_at(body, 5),
+        },
+        OPERATE_WITHIN => operate_in(body, Wait::Milliseconds(word_at(body, 6))),
+        CLOCK => Event::Clock {
+            time: long_at(body, 1),
         },
         SET_ALL => Event::SetAll {
             identifier: signed_at(body, 1),
@@ -184,13 +241,15 @@ pub fn handed_at(file: &[u8], at: usize) -> &[u8]
         return first(file, 0);
     }
     let body = &file[at..];
-    if body[0] == SET_ALL {
-        let values = behind(body, SET_ALL_BYTES as usize);
-        return first(values, VALUE_BYTES * (byte_at(body, 5) as usize));
+    let kind = body[0];
+    if kind == SET_ALL {
+        return items(body, SET_ALL_BYTES, VALUE_BYTES);
     }
-    if body[0] == OPERATE {
-        let operations = behind(body, OPERATE_BYTES as usize);
-        first(operations, OPERATION_BYTES * (byte_at(body, 6) as usize))
+    if kind == OPERATE_WITHIN {
+        return items(body, OPERATE_WITHIN_BYTES, OPERATION_BYTES);
+    }
+    if kind == OPERATE {
+        items(body, OPERATE_BYTES, OPERATION_BYTES)
     } else {
         first(body, 0)
     }

@@ -8,9 +8,10 @@ ghost use mathlib.Core.Path.{_≡_};
 ghost use mathlib.Core.List.{[]};
 ghost use Rattle.model.specs.State.{freshState};
 ghost use Rattle.model.specs.Waking.{waker};
-ghost use Rattle.model.specs.Events.{doCreate, doOperate, doSetValue, doRemove, doSignal, doExit, doQuery, doSetAll};
+ghost use Rattle.model.specs.Events.{doCreate, doOperate, doSetValue, doRemove, doSignal, doExit, doQuery, doSetAll, doClock};
 ghost use Rattle.model.specs.WholeSet.{querySet};
 ghost use Rattle.model.specs.declared.Engine.the-variants.{Quick};
+ghost use Rattle.model.specs.declared.Wait.the-variants.{Endless, Milliseconds};
 ghost use Rattle.host.specs.Holding.{Held, hostIn, hostOf, stateIn};
 ghost use Rattle.wakings.specs.Wakings.{placesIn, listOf};
 ghost use Rattle.service.specs.After.{afterOf, queriedOf};
@@ -29,6 +30,7 @@ use model::SETS;
 use model::Told;
 use model::VALUE_MAX;
 use model::WAKING_BYTES;
+use model::Wait;
 
 // What a caller keeps and lends: a host's row of bytes, its undo adjustments, and a list for the wakings of an event.
 #[repr(C)]
@@ -149,7 +151,7 @@ pub extern "C" fn vairolent_operate_in(
     operations: &[u8],
 ) -> Reported
     requires { ⌜ Held (hostIn (now row) (now adjustments)) ⌝ }
-    ensures { λ r. ⌜ handedIn (now (row .exit)) (now (adjustments .exit)) (now (wakings .exit)) r ≡ handedOf (afterOf (doOperate (waker Quick) (stateIn (hostIn (now (row .entry)) (now (adjustments .entry)))) process identifier (now (operations .entry)))) ⌝ }
+    ensures { λ r. ⌜ handedIn (now (row .exit)) (now (adjustments .exit)) (now (wakings .exit)) r ≡ handedOf (afterOf (doOperate (waker Quick) (stateIn (hostIn (now (row .entry)) (now (adjustments .entry)))) process identifier Endless (now (operations .entry)))) ⌝ }
 {
     report(service::operate(
         row,
@@ -158,6 +160,33 @@ pub extern "C" fn vairolent_operate_in(
         Engine::Quick,
         process,
         identifier,
+        Wait::Endless,
+        operations,
+    ))
+}
+
+// The same call, which waits so many milliseconds at most.
+#[no_mangle]
+pub extern "C" fn vairolent_operate_within_in(
+    row: &mut [u8; HOST_BYTES],
+    adjustments: &mut [i16; ALL_ADJUSTMENTS],
+    wakings: &mut [u8; WAKING_BYTES],
+    process: u8,
+    identifier: i32,
+    wait: u32,
+    operations: &[u8],
+) -> Reported
+    requires { ⌜ Held (hostIn (now row) (now adjustments)) ⌝ }
+    ensures { λ r. ⌜ handedIn (now (row .exit)) (now (adjustments .exit)) (now (wakings .exit)) r ≡ handedOf (afterOf (doOperate (waker Quick) (stateIn (hostIn (now (row .entry)) (now (adjustments .entry)))) process identifier (Milliseconds wait) (now (operations .entry)))) ⌝ }
+{
+    report(service::operate(
+        row,
+        adjustments,
+        wakings,
+        Engine::Quick,
+        process,
+        identifier,
+        Wait::Milliseconds(wait),
         operations,
     ))
 }
@@ -237,6 +266,19 @@ pub extern "C" fn vairolent_set_all_in(
     ensures { λ r. ⌜ handedIn (now (row .exit)) (now (adjustments .exit)) (now (wakings .exit)) r ≡ handedOf (afterOf (doSetAll (waker Quick) (stateIn (hostIn (now (row .entry)) (now (adjustments .entry)))) identifier (now (values .entry)))) ⌝ }
 {
     report(service::set_all(row, adjustments, wakings, Engine::Quick, identifier, values))
+}
+
+#[no_mangle]
+pub extern "C" fn vairolent_clock_in(
+    row: &mut [u8; HOST_BYTES],
+    adjustments: &mut [i16; ALL_ADJUSTMENTS],
+    wakings: &mut [u8; WAKING_BYTES],
+    time: u64,
+) -> Reported
+    requires { ⌜ Held (hostIn (now row) (now adjustments)) ⌝ }
+    ensures { λ r. ⌜ handedIn (now (row .exit)) (now (adjustments .exit)) (now (wakings .exit)) r ≡ handedOf (afterOf (doClock (stateIn (hostIn (now (row .entry)) (now (adjustments .entry)))) time)) ⌝ }
+{
+    report(service::clock(row, adjustments, wakings, time))
 }
 
 #[no_mangle]

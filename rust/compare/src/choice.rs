@@ -6,6 +6,7 @@ use second::{NOWAIT, OPERATIONS, UNDO};
 use crate::events::EVENTS;
 use crate::random::Rng;
 use crate::scene::{Scene, Target};
+use crate::times;
 
 pub const MAX: i32 = 32_767;
 /// Out of the range of values: by one mostly, and where sixteen bits are not enough.
@@ -66,6 +67,14 @@ fn operations(rng: &mut Rng, target: &Target, most: usize) -> Vec<Operation> {
     (0..rng.below(most + 1)).map(|_| operation(rng, target)).collect()
 }
 
+/// An operate, once in three with a wait.
+pub fn call(rng: &mut Rng, process: u8, identifier: i32, array: &[Operation]) -> Body {
+    match rng.below(3) {
+        0 => event::timed_operate(process, identifier, times::wait(rng), array),
+        _ => event::operate(process, identifier, array),
+    }
+}
+
 /// An operate of a few operations by a process awake.
 pub fn operate(scene: &mut Scene) -> Body {
     let target = scene.target();
@@ -73,7 +82,7 @@ pub fn operate(scene: &mut Scene) -> Body {
     let most = scene.rng.pick(&[0, 1, 2, 3, 7]);
     let mut array = operations(&mut scene.rng, &target, most);
     array.push(operation(&mut scene.rng, &target));
-    event::operate(caller, target.identifier, &array)
+    call(&mut scene.rng, caller, target.identifier, &array)
 }
 
 /// An operate whose last operation can't go through yet.
@@ -86,15 +95,16 @@ pub fn sleepy(scene: &mut Scene) -> Body {
     let value = target.values[usize::from(number)];
     let amount = if value != 0 && rng.once_in(2) { 0 } else { -value - rng.between(1, 2) };
     array.push((number, narrow(amount), flags(rng) & !NOWAIT));
-    event::operate(caller, target.identifier, &array)
+    call(rng, caller, target.identifier, &array)
 }
 
 /// An event that may well wake somebody.
 pub fn stir(scene: &mut Scene) -> Body {
-    match scene.rng.below(7) {
+    match scene.rng.below(8) {
         0 | 1 => set_value(scene),
         2 => exit(scene),
         3 => set_all(scene),
+        4 => clock(scene),
         _ => operate(scene),
     }
 }
@@ -167,6 +177,11 @@ pub fn read_all(scene: &mut Scene) -> Body {
     event::read_all(scene.target().identifier)
 }
 
+pub fn clock(scene: &mut Scene) -> Body {
+    let (now, ends) = (scene.time(), scene.ends());
+    event::clock(times::time(&mut scene.rng, now, &ends))
+}
+
 /// An event that asks for a state.
 pub fn ask(scene: &mut Scene) -> Body {
     match scene.rng.below(2) {
@@ -177,7 +192,7 @@ pub fn ask(scene: &mut Scene) -> Body {
 
 /// Any event, as often as in everyday traffic.
 pub fn any(scene: &mut Scene) -> Body {
-    match scene.rng.below(44) {
+    match scene.rng.below(46) {
         0..=1 => create(scene),
         2..=6 => set_value(scene),
         7 => remove(scene),
@@ -188,6 +203,7 @@ pub fn any(scene: &mut Scene) -> Body {
         20..=27 => sleepy(scene),
         28..=29 => set_all(scene),
         30..=31 => read_all(scene),
+        32..=33 => clock(scene),
         _ => operate(scene),
     }
 }
@@ -195,27 +211,28 @@ pub fn any(scene: &mut Scene) -> Body {
 /// An event that some check refuses, if only by one.
 pub fn refusal(scene: &mut Scene) -> Body {
     let target = scene.target();
-    let stranger = stale(scene);
+    let (stranger, now) = (stale(scene), scene.time());
     let (process, caller) = (scene.process(), scene.caller());
     let rng = &mut scene.rng;
     let outside = rng.pick(&[0, 9, 10, 128, 255]);
+    let either = rng.pick(&[target.identifier, stranger]);
     let beyond = target.values.len() as u16 + rng.pick(&[0, 0, 1, 8, 248, 256, 65_000]);
     let too_many = vec![operation(rng, &target); rng.pick(&[33, 33, 34, 64])];
     let most = rng.pick(&[7, 7, 7, OPERATIONS - 1]);
     let mut array = operations(rng, &target, most);
-    match rng.below(21) {
+    match rng.below(22) {
         0 => event::create(rng.pick(&[0, 9, 255]), 0xFF, 0xFF),
         1 => event::create(rng.between(1, 8) as u8, rng.byte(), rng.byte()),
-        2 => event::operate(outside, rng.pick(&[target.identifier, stranger]), &array),
-        3 => event::operate(process, rng.pick(&[target.identifier, stranger]), &[]),
-        4 => event::operate(process, rng.pick(&[target.identifier, stranger]), &too_many),
+        2 => call(rng, outside, either, &array),
+        3 => call(rng, process, either, &[]),
+        4 => call(rng, process, either, &too_many),
         5 | 6 => {
             array.insert(rng.below(array.len() + 1), (beyond, amount(rng, 0), flags(rng)));
-            event::operate(caller, rng.pick(&[target.identifier, stranger]), &array)
+            call(rng, caller, either, &array)
         }
         7 | 8 => {
             array.push((0, narrow(rng.pick(&[0, 1, -1])), flags(rng)));
-            event::operate(process, target.identifier, &array)
+            call(rng, process, target.identifier, &array)
         }
         9 => event::set_value(stranger, 0, 40_000),
         10 => event::set_value(target.identifier, beyond, 40_000),
@@ -227,6 +244,7 @@ pub fn refusal(scene: &mut Scene) -> Body {
         16 => event::query(target.identifier, beyond),
         17 => event::read_all(stranger),
         18 => event::set_all(stranger, &values(rng, &target)),
+        19 => event::clock(times::refused(rng, now)),
         _ => refused_setting(rng, &target),
     }
 }

@@ -216,11 +216,13 @@ fn wrong_length(rng: &mut Rng, bodies: Vec<Body>) -> Vec<u8> {
     with_body(rng, bodies, body)
 }
 
-/// An operate with another number of operations than it has, or a setting with another of values.
+/// An operate with another number of operations than it has, with a wait or without, or a setting
+/// with another of values.
 fn wrong_number(rng: &mut Rng, bodies: Vec<Body>) -> Vec<u8> {
     let number = rng.below(10);
-    let (mut body, place) = match rng.below(2) {
+    let (mut body, place) = match rng.below(3) {
         0 => (event::operate(1, 0, &vec![(0, 1, 0); number]), 6),
+        1 => (event::timed_operate(1, 0, 1, &vec![(0, 1, 0); number]), 10),
         _ => (event::set_all(0, &vec![1; number]), 5),
     };
     body[place] = body[place].wrapping_add(rng.pick(&[1, 2, 43, 64, 128, 255]));

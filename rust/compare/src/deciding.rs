@@ -4,7 +4,7 @@
 use second::event::{self, Operation};
 use second::{NOWAIT, OPERATIONS, UNDO};
 
-use crate::choice::{narrow, MAX};
+use crate::choice::{self, narrow, MAX};
 use crate::random::Rng;
 use crate::scene::Scene;
 
@@ -41,7 +41,7 @@ pub fn deciding(scene: &mut Scene) {
     // The value stays as it is, and would change at the holder's exit.
     let change = narrow(to - from);
     scene.push(event::operate(holder, id, &[(number, change, 0), (number, -change, UNDO)]));
-    scene.push(event::operate(sleeper, id, &array));
+    scene.add(|scene| choice::call(&mut scene.rng, sleeper, id, &array));
     // A setting would clear what the sleeper holds.
     let end = match scene.rng.below(if taken > 0 { 2 } else { 4 }) {
         0 => event::operate(holder, id, &[(number, change, 0)]),
@@ -50,7 +50,7 @@ pub fn deciding(scene: &mut Scene) {
         _ => event::set_value(id, number, to),
     };
     scene.push(end);
-    scene.push(event::operate(sleeper, id, &array));
+    scene.add(|scene| choice::call(&mut scene.rng, sleeper, id, &array));
 }
 
 fn plan(rng: &mut Rng, numbers: &[u16]) -> Plan {

@@ -21,7 +21,7 @@ pub struct EventKind {
 }
 
 /// By their numbers.
-pub const EVENTS: [EventKind; 9] = [
+pub const EVENTS: [EventKind; 11] = [
     EventKind {
         number: 1,
         name: "create",
@@ -39,8 +39,7 @@ pub const EVENTS: [EventKind; 9] = [
         wakings: &[0, 11, 34],
         small: |rng| event::operate(1, 0, &vec![(0, 1, 0); rng.below(10)]),
         drawn: |field, operations| {
-            let operation = |_| (field() as u16, field() as i16, field() as u16);
-            let array: Vec<Operation> = (0..operations).map(operation).collect();
+            let array = drawn_array(field, operations);
             event::operate(field() as u8, field() as i32, &array)
         },
     },
@@ -90,6 +89,27 @@ pub const EVENTS: [EventKind; 9] = [
         drawn: |field, _| event::query(field() as i32, field() as u16),
     },
     EventKind {
+        number: 8,
+        name: "timed operate",
+        asks: false,
+        codes: &[0, -1, 3, 7, 11, 13, 16, 22, 27, 34],
+        wakings: &[0, 11, 34],
+        small: |rng| event::timed_operate(1, 0, 1, &vec![(0, 1, 0); rng.below(10)]),
+        drawn: |field, operations| {
+            let array = drawn_array(field, operations);
+            event::timed_operate(field() as u8, field() as i32, field() as u32, &array)
+        },
+    },
+    EventKind {
+        number: 9,
+        name: "clock",
+        asks: false,
+        codes: &[0, 22],
+        wakings: &[11],
+        small: |_| event::clock(1),
+        drawn: |field, _| event::clock(field()),
+    },
+    EventKind {
         number: 10,
         name: "set all",
         asks: false,
@@ -112,6 +132,10 @@ pub const EVENTS: [EventKind; 9] = [
     },
 ];
 
+fn drawn_array(field: &mut dyn FnMut() -> u64, operations: usize) -> Vec<Operation> {
+    (0..operations).map(|_| (field() as u16, field() as i16, field() as u16)).collect()
+}
+
 /// Where the kind of a good body stands in `EVENTS`.
 pub fn place(body: &[u8]) -> usize {
     EVENTS.iter().position(|kind| kind.number == body[0]).expect("a good body is of some kind")
@@ -131,7 +155,7 @@ mod tests {
     #[test]
     fn unknown_numbers() {
         let unknown = unknown();
-        assert_eq!(unknown[..5], [0, 8, 9, 12, 13]);
+        assert_eq!(unknown[..4], [0, 12, 13, 14]);
         for number in 0..=u8::MAX {
             let refused = matches!(Event::decode(&[number]), Err(Bad::Kind));
             assert_eq!(refused, unknown.contains(&number), "kind {number}");

@@ -1,6 +1,6 @@
 //! Arrays of twenty to thirty-two operations: done at once, asleep, woken, and decided anywhere.
 
-use second::event::{self, Body, Operation};
+use second::event::{Body, Operation};
 use second::{NOWAIT, OPERATIONS, UNDO};
 
 use crate::choice::{self, narrow, MAX};
@@ -25,11 +25,12 @@ pub fn long(scene: &mut Scene) {
 
 /// An event that may well wake somebody.
 fn stir(scene: &mut Scene) -> Body {
-    match scene.rng.below(7) {
+    match scene.rng.below(8) {
         0 => choice::set_value(scene),
         1 => choice::exit(scene),
         2 => choice::signal(scene),
         3 => choice::set_all(scene),
+        4 => choice::clock(scene),
         _ => operate(scene),
     }
 }
@@ -52,7 +53,7 @@ fn operate(scene: &mut Scene) -> Body {
     let array: Vec<Operation> = (0..length)
         .map(|at| if at == decides { decider(rng, &values) } else { step(rng, &mut values) })
         .collect();
-    event::operate(caller, target.identifier, &array)
+    choice::call(rng, caller, target.identifier, &array)
 }
 
 /// An operation that goes through on the values, which it changes.

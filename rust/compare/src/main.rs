@@ -4,6 +4,7 @@
 
 mod check;
 mod choice;
+mod clock;
 mod damage;
 mod deciding;
 mod end;
@@ -23,9 +24,11 @@ mod script;
 mod steady;
 mod sweep;
 mod tally;
+mod times;
 mod traffic;
 mod values;
 mod versus;
+mod waits;
 mod wholes;
 mod work;
 mod zeros;

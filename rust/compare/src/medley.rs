@@ -1,5 +1,6 @@
 //! The scripts as kinds of files, and a medley of them all.
 
+use crate::clock;
 use crate::deciding;
 use crate::kind::Kind;
 use crate::kind::Make::Script;
@@ -10,7 +11,7 @@ use crate::values;
 
 pub static MEDLEY: Kind = Kind::new("medley", Script(play), "episodes of all the scripts below");
 
-pub static SCRIPTS: [Kind; 17] = [
+pub static SCRIPTS: [Kind; 18] = [
     Kind::new("mixed", Script(script::mixed), "everyday traffic"),
     Kind::new("dense", Script(script::dense), "seven and eight asleep, and what wakes them"),
     Kind::new("chains", Script(script::chain), "wake chains as in situation 11"),
@@ -28,6 +29,7 @@ pub static SCRIPTS: [Kind; 17] = [
     Kind::new("deciding", Script(deciding::deciding), "arrays that any operation decides"),
     Kind::new("long", Script(long::long), "arrays of twenty to thirty-two operations"),
     Kind::new("whole", Script(values::whole), "all values of a set, set and read at once"),
+    Kind::new("timed", Script(clock::timed), "waits, and times that end them"),
 ];
 
 /// Draws of a script; those beyond the last play nothing. With another number of them a seed would

@@ -4,7 +4,7 @@ use std::cmp::Ordering;
 use std::ops::RangeInclusive;
 
 use second::event::OPERATION;
-use second::{Event, OPERATIONS};
+use second::{Event, NOWAIT, OPERATIONS};
 
 use crate::line::{Code, Line};
 
@@ -14,6 +14,8 @@ pub enum Decision {
     /// The code of an operate, or of a waking.
     Operate(i32),
     Waking(i32),
+    /// The 11 of an operate that would sleep and has a wait of 0.
+    NoTime,
     /// The 34 of an adjustment.
     Adjustment,
     /// A waking, and the call had gone to sleep at a later operation, at this one, at an earlier.
@@ -26,10 +28,11 @@ pub enum Decision {
 const LAST: u8 = OPERATIONS as u8 - 1;
 
 /// All of them, with their names and the positions that have to come.
-pub const DECISIONS: [(Decision, &str, RangeInclusive<u8>); 9] = [
+pub const DECISIONS: [(Decision, &str, RangeInclusive<u8>); 10] = [
     (Decision::Operate(-1), "operate: -1 at", 0..=LAST),
     (Decision::Operate(11), "operate: 11 at", 0..=LAST),
     (Decision::Operate(34), "operate: 34 at", 0..=LAST),
+    (Decision::NoTime, "wait of 0: 11 at", 0..=LAST),
     (Decision::Waking(11), "waking: 11 at", 0..=LAST),
     (Decision::Waking(34), "waking: 34 at", 0..=LAST),
     (Decision::Adjustment, "adjustment: 34 at", 0..=LAST),
@@ -48,10 +51,14 @@ impl<'a> Positions<'a> {
     /// Follows one event: what was decided, and at which operations.
     pub fn follow(&mut self, event: Event<'a>, line: &Line) -> Vec<(Decision, u8)> {
         let mut decided = Vec::new();
-        if let (Event::Operate { process, operations, .. }, Some(at)) = (event, line.code.position)
-        {
+        let by_judging = line.code.position;
+        if let (Event::Operate { process, wait, operations, .. }, Some(at)) = (event, by_judging) {
             self.calls[usize::from(process)] = (operations, at);
-            decided.push((Decision::Operate(line.code.number), at));
+            let decision = match (wait, line.code.number) {
+                (Some(0), 11) if !has_nowait(operations, at) => Decision::NoTime,
+                (_, code) => Decision::Operate(code),
+            };
+            decided.push((decision, at));
             decided.extend(by_adjustment(line.code, operations));
         }
         for &(process, code) in &line.wakings {
@@ -77,16 +84,25 @@ fn side(at: u8, slept: u8) -> Decision {
 /// Is it the 34 of an adjustment? That is sure of an amount below 0: no value grows too large by it.
 fn by_adjustment(code: Code, operations: &[u8]) -> Option<(Decision, u8)> {
     let position = code.position.filter(|_| code.number == 34)?;
-    let operation = operations.chunks_exact(OPERATION).nth(position.into())?;
+    let operation = operation_at(operations, position)?;
     let amount = i16::from_le_bytes([operation[2], operation[3]]);
     (amount < 0).then_some((Decision::Adjustment, position))
+}
+
+fn has_nowait(operations: &[u8], position: u8) -> bool {
+    let flags = |operation: &[u8]| u16::from_le_bytes([operation[4], operation[5]]);
+    operation_at(operations, position).map_or(false, |operation| flags(operation) & NOWAIT != 0)
+}
+
+fn operation_at(operations: &[u8], position: u8) -> Option<&[u8]> {
+    operations.chunks_exact(OPERATION).nth(position.into())
 }
 
 #[cfg(test)]
 mod tests {
     use super::*;
     use crate::line::followed;
-    use second::event::{create, operate, set_value, signal, Body};
+    use second::event::{clock, create, operate, set_value, signal, timed_operate, Body};
     use second::{run_file, NOWAIT, UNDO};
 
     /// What the events of a run show.
@@ -130,6 +146,26 @@ mod tests {
             (Decision::Before, 0),
             (Decision::Waking(34), 3),
             (Decision::Behind, 3),
+        ];
+        assert_eq!(decided(&run), wanted);
+    }
+
+    /// An expiry names no operation.
+    #[test]
+    fn with_a_wait() {
+        let run = [
+            create(2, 255, 255),
+            timed_operate(1, 0, 0, &[(0, 0, 0), (0, -1, 0)]),
+            timed_operate(1, 0, 0, &[(0, -1, NOWAIT)]),
+            timed_operate(1, 0, 0, &[(1, 32_767, 0), (1, 1, 0)]),
+            timed_operate(1, 0, 1, &[(0, -1, 0)]),
+            clock(1),
+        ];
+        let wanted = [
+            (Decision::NoTime, 1),
+            (Decision::Operate(11), 0),
+            (Decision::Operate(34), 1),
+            (Decision::Operate(-1), 0),
         ];
         assert_eq!(decided(&run), wanted);
     }

@@ -41,6 +41,11 @@ impl Scene {
         self.full
     }
 
+    /// Bytes that are left.
+    pub fn room(&self) -> usize {
+        self.limit.saturating_sub(self.size)
+    }
+
     /// Adds an event and gives its answer.
     pub fn push(&mut self, body: Body) -> Answer {
         let grown = self.size + ENTRY + body.len();
@@ -131,6 +136,16 @@ impl Scene {
         set.map_or(Vec::new(), |target| target.values)
     }
 
+    /// The time last told.
+    pub fn time(&self) -> u64 {
+        self.host.time()
+    }
+
+    /// The times at which waits of sleepers are over.
+    pub fn ends(&self) -> Vec<u64> {
+        self.host.ends().collect()
+    }
+
     pub fn is_asleep(&self, process: u8) -> bool {
         self.host.asleep() >> (process - 1) & 1 != 0
     }
@@ -168,12 +183,17 @@ impl Scene {
         }
     }
 
-    /// Wakes everybody and puts every semaphore of the set to 0.
-    pub fn calm(&mut self, identifier: i32) {
+    /// By signals and exits.
+    pub fn wake_all(&mut self) {
         for process in self.asleep() {
             let signal = self.rng.once_in(2);
             self.push(if signal { event::signal(process) } else { event::exit(process) });
         }
+    }
+
+    /// Wakes everybody and puts every semaphore of the set to 0.
+    pub fn calm(&mut self, identifier: i32) {
+        self.wake_all();
         let values = self.values(identifier);
         for (number, _) in values.iter().enumerate().filter(|(_, &value)| value != 0) {
             self.push(event::set_value(identifier, number as u16, 0));

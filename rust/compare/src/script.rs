@@ -142,7 +142,7 @@ pub fn extremes(scene: &mut Scene) {
             let amount = scene.rng.pick(&[-32_768, -32_768, -32_767, MAX, MAX - 1, 1, -1, 0]);
             array.push((number, narrow(amount), choice::flags(&mut scene.rng)));
         }
-        scene.push(event::operate(caller, target.identifier, &array));
+        scene.add(|scene| choice::call(&mut scene.rng, caller, target.identifier, &array));
     }
     let leaver = scene.process();
     scene.push(event::exit(leaver));
@@ -167,7 +167,7 @@ fn change_under(scene: &mut Scene, code: u8) {
     scene.push(event::set_value(id, b, 0));
     scene.push(event::set_value(id, a, to));
     scene.push(event::operate(holder, id, &[(a, narrow(from - to), UNDO)]));
-    scene.push(event::operate(sleeper, id, &[first, (b, -1, 0)]));
+    scene.add(|scene| choice::call(&mut scene.rng, sleeper, id, &[first, (b, -1, 0)]));
     if scene.rng.once_in(3) {
         let asleep = scene.asleep().len() + 2;
         fill(scene, asleep.min(7));
@@ -239,7 +239,8 @@ pub fn exits(scene: &mut Scene) {
         let sleeper = scene.awake().into_iter().find(|&process| process != holder);
         let amount = scene.rng.pick(&[-1, -1, -2, -3]);
         let array = [(number, amount, choice::flags(&mut scene.rng) & !NOWAIT)];
-        scene.push(event::operate(sleeper.unwrap_or(holder), identifier, &array));
+        let caller = sleeper.unwrap_or(holder);
+        scene.add(|scene| choice::call(&mut scene.rng, caller, identifier, &array));
     }
     scene.push(event::exit(holder));
 }

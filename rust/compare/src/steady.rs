@@ -8,7 +8,7 @@ use crate::kind::Kind;
 use crate::kind::Make::Script;
 use crate::scene::Scene;
 
-pub static STEADY: [Kind; 4] = [
+pub static STEADY: [Kind; 5] = [
     Kind::new(
         "counts",
         Script(counts),
@@ -29,7 +29,11 @@ pub static STEADY: [Kind; 4] = [
         Script(starts),
         "settings of all values, with seven asleep of which some wake",
     ),
+    Kind::new("ticks", Script(ticks), "times, with seven asleep on waits of which some end"),
 ];
+
+/// The longest wait of `ticks`.
+const LONGEST: i32 = 16;
 
 /// The most that `settings` and `starts` set semaphore 0 to.
 const MOST: i32 = 4;
@@ -94,6 +98,17 @@ fn starts(scene: &mut Scene) {
     scene.push(event::set_all(id, &values));
 }
 
+/// Each time is a millisecond later. Who is ended calls again before the next.
+fn ticks(scene: &mut Scene) {
+    let id = scene.open_set(8).identifier;
+    for process in scene.awake().into_iter().filter(|&process| process != 8) {
+        let wait = scene.rng.between(1, LONGEST) as u32;
+        scene.push(event::timed_operate(process, id, wait, &[(process.into(), -1, 0)]));
+    }
+    let next = scene.time() + 1;
+    scene.push(event::clock(next));
+}
+
 #[cfg(test)]
 mod tests {
     use super::*;
@@ -146,6 +161,20 @@ mod tests {
             }
             assert!(woken[0] > 500 && woken[1] > 250, "{woken:?}");
         }
+    }
+
+    #[test]
+    fn a_tick_looks_at_nobody_and_ends_some() {
+        let mut ended = [0; 9];
+        for answer in answers(ticks, Rule::Quick, 7) {
+            match answer {
+                Answer::Event(Report { code: 0, looks: 0, wakings, .. }) => {
+                    ended[wakings.as_slice().len()] += 1;
+                }
+                _ => assert_eq!(answer.code(), -1),
+            }
+        }
+        assert!(ended[0] > 500 && ended[1] > 500 && ended[2] > 100, "{ended:?}");
     }
 
     #[test]

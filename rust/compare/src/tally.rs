@@ -10,6 +10,7 @@ use crate::events::{self, EventKind, EVENTS};
 use crate::lengths::{Length, Lengths, LENGTHS};
 use crate::line::Line;
 use crate::positions::{Decision, Positions, DECISIONS};
+use crate::waits::{Wait, Waits, WAITS};
 use crate::wholes::{Whole, Wholes, WHOLES};
 use crate::zeros::{When, Zeros, WHENS};
 
@@ -17,7 +18,7 @@ const BAD: [i32; 4] = [201, 202, 203, 204];
 /// Files of more bytes than this count as long.
 const LONG: usize = 60_000;
 /// Width of the table's first column.
-const TITLE: usize = 20;
+const TITLE: usize = 24;
 
 type Counts<K> = BTreeMap<K, u64>;
 
@@ -38,6 +39,8 @@ pub struct Tally {
     lengths: Counts<(Length, i32)>,
     /// How whole sets were set and read.
     wholes: Counts<(Whole, i32)>,
+    /// How waits ended, and which times were told.
+    waits: Counts<(Wait, i32)>,
     /// Queries that show a last process set by an amount of 0.
     by_zero: Counts<When>,
 }
@@ -62,6 +65,7 @@ impl Tally {
         } else if let Ok(run) = RunFile::read(file) {
             let (mut zeros, mut positions) = (Zeros::default(), Positions::default());
             let (mut lengths, mut wholes) = (Lengths::default(), Wholes::default());
+            let mut waits = Waits::default();
             for ((body, event), (quick, plain)) in run.bodies().zip(run.events()).zip(lines) {
                 let quick = Line::read(quick).ok_or_else(|| no_line(quick))?;
                 let plain = Line::read(plain).ok_or_else(|| no_line(plain))?;
@@ -69,6 +73,7 @@ impl Tally {
                 count_each(&mut self.decided, positions.follow(event, &quick));
                 count_each(&mut self.lengths, lengths.follow(event, &quick));
                 count_each(&mut self.wholes, wholes.follow(event, &quick));
+                count_each(&mut self.waits, waits.follow(event, &quick));
                 count_each(&mut self.by_zero, zeros.follow(event, &quick));
             }
         }
@@ -103,6 +108,7 @@ impl Tally {
         add_all(&mut self.decided, other.decided);
         add_all(&mut self.lengths, other.lengths);
         add_all(&mut self.wholes, other.wholes);
+        add_all(&mut self.waits, other.waits);
         add_all(&mut self.by_zero, other.by_zero);
     }
 
@@ -130,11 +136,10 @@ impl Tally {
         for (decision, name, _) in DECISIONS {
             row(name, entries(of(&self.decided, decision)));
         }
-        for (length, name, _) in LENGTHS {
-            row(name, entries(of(&self.lengths, length)));
-        }
-        for (whole, name, _) in WHOLES {
-            row(name, entries(of(&self.wholes, whole)));
+        let lengths = rows(&self.lengths, &LENGTHS);
+        let wholes = rows(&self.wholes, &WHOLES);
+        for (name, entries) in lengths.chain(wholes).chain(rows(&self.waits, &WAITS)) {
+            row(name, entries);
         }
         row("looks, quick rule", entries(self.quick_looks.iter()));
         row("looks, plain rule", entries(self.plain_looks.iter()));
@@ -150,6 +155,7 @@ impl Tally {
         let mut missing = self.missing_codes();
         missing.extend(self.missing_arrays());
         missing.extend(lacking_rows(&self.wholes, &WHOLES));
+        missing.extend(lacking_rows(&self.waits, &WAITS));
         let whens = WHENS.iter().filter(|(when, _)| !self.by_zero.contains_key(when));
         missing.extend(whens.map(|(_, name)| format!("a last process set by 0 {name}")));
         let bad = BAD.iter().filter(|code| !self.bad.contains_key(code));
@@ -195,11 +201,19 @@ fn add_all<K: Ord>(counts: &mut Counts<K>, others: Counts<K>) {
     }
 }
 
-/// All that never came of some rows: each with its name and the numbers that have to come.
-fn lacking_rows<K: Copy + Ord>(
-    counts: &Counts<(K, i32)>,
-    rows: &[(K, &str, &[i32])],
-) -> Vec<String> {
+/// What is counted in one row of the table, its name, and the numbers that have to come.
+type Row<K> = (K, &'static str, &'static [i32]);
+
+/// Some rows: their names, and what came.
+fn rows<'a, K: Copy + PartialEq>(
+    counts: &'a Counts<(K, i32)>,
+    rows: &'a [Row<K>],
+) -> impl Iterator<Item = (&'a str, String)> {
+    rows.iter().map(|(key, name, _)| (*name, entries(of(counts, *key))))
+}
+
+/// All that never came of some rows.
+fn lacking_rows<K: Copy + Ord>(counts: &Counts<(K, i32)>, rows: &[Row<K>]) -> Vec<String> {
     let mut missing = Vec::new();
     for (key, name, numbers) in rows {
         let lacking = lacking(counts, *key, numbers.iter().copied());
@@ -239,9 +253,10 @@ mod tests {
     use crate::sweep;
     use second::{replay, Rule};
 
-    /// The files that every seed has show all decisions and lengths, and all of whole sets.
+    /// The files that every seed has show all decisions and lengths, and all of whole sets and of
+    /// waits.
     #[test]
-    fn the_sweep_reaches_all_of_arrays_and_sets() {
+    fn the_sweep_reaches_all_of_arrays_sets_and_waits() {
         let mut tally = Tally::default();
         for file in sweep::files() {
             let [quick, plain] = [Rule::Quick, Rule::Plain].map(|rule| replay(&file, rule));
@@ -249,5 +264,6 @@ mod tests {
         }
         assert_eq!(tally.missing_arrays(), [""; 0]);
         assert_eq!(lacking_rows(&tally.wholes, &WHOLES), [""; 0]);
+        assert_eq!(lacking_rows(&tally.waits, &WAITS), [""; 0]);
     }
 }

@@ -40,7 +40,7 @@ impl<'a> Zeros<'a> {
             (Event::Create { .. }, 0, [identifier, ..]) => {
                 self.without[slot_of(*identifier)] = [0; 8];
             }
-            (Event::Operate { process, identifier, operations }, code @ -1..=0, _) => {
+            (Event::Operate { process, identifier, operations, .. }, code @ -1..=0, _) => {
                 self.calls[usize::from(process)] = (slot_of(identifier), operations);
                 if code == 0 {
                     self.done(process, When::AtOnce);

@@ -14,6 +14,8 @@ pub fn encode(event: &Event) -> Vec<u8> {
             Field::Identifier(value) | Field::Value(value) => {
                 body.extend_from_slice(&value.to_le_bytes());
             }
+            Field::Wait(wait) => body.extend(wait.iter().flat_map(|wait| wait.to_le_bytes())),
+            Field::Time(time) => body.extend_from_slice(&time.to_le_bytes()),
             Field::Values(values) => {
                 body.push(values.len() as u8);
                 body.extend(values.iter().flat_map(|value| value.to_le_bytes()));
@@ -46,6 +48,8 @@ pub fn decode(body: &[u8]) -> Result<Event, Refusal> {
             Field::Count(value) | Field::Process(value) | Field::Mask(value) => *value = bytes.u8(),
             Field::Number(value) => *value = bytes.u16(),
             Field::Identifier(value) | Field::Value(value) => *value = bytes.i32(),
+            Field::Wait(wait) => *wait = wait.map(|_| bytes.u32()),
+            Field::Time(time) => *time = bytes.u64(),
             Field::Values(values) => *values = bytes.values(),
             Field::Operations(operations) => *operations = bytes.operations(),
         }
@@ -89,6 +93,14 @@ impl Bytes<'_> {
 
     fn i32(&mut self) -> i32 {
         i32::from_le_bytes(self.take())
+    }
+
+    fn u32(&mut self) -> u32 {
+        u32::from_le_bytes(self.take())
+    }
+
+    fn u64(&mut self) -> u64 {
+        u64::from_le_bytes(self.take())
     }
 
     fn values(&mut self) -> Vec<i32> {

@@ -23,10 +23,14 @@ pub fn name(code: i32) -> String {
 
 pub const OUT_OF_RANGE: &str = "a value or an undo adjustment would go out of its range";
 
-/// Why a sleeper is ended with this code.
-pub fn why_ended(code: i32) -> Option<&'static str> {
+pub const GAVE_UP: &str = "gave up waiting";
+
+/// Why a sleeper is ended with this code. The position is that of the operation that decided: none
+/// does where a wait is over.
+pub fn why_ended(code: i32, position: Option<usize>) -> Option<&'static str> {
     Some(match code {
         4 => "by the signal",
+        11 if position.is_none() => GAVE_UP,
         11 => "it stops now where nowait is given",
         34 => OUT_OF_RANGE,
         43 => "its set is removed",

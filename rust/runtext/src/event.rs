@@ -1,4 +1,4 @@
-//! The nine events. All that a kind has of its own is said here.
+//! The ten events. All that a kind has of its own is said here.
 
 use std::mem::discriminant;
 
@@ -6,7 +6,7 @@ use crate::codes::OUT_OF_RANGE;
 use crate::count::counted;
 use crate::field::Field;
 use crate::mask;
-use crate::operation::{array_in_words, Operation};
+use crate::operation::{array_in_words, Operation, NOWAIT};
 use crate::values;
 
 /// Any value that fits the body is kept, also one that every host refuses.
@@ -17,10 +17,11 @@ pub enum Event {
         read: u8,
         alter: u8,
     },
-    /// At most 255 operations, since their number is one byte.
+    /// At most 255 operations, since their number is one byte. The wait is in milliseconds.
     Operate {
         process: u8,
         identifier: i32,
+        wait: Option<u32>,
         operations: Vec<Operation>,
     },
     SetValue {
@@ -40,6 +41,10 @@ pub enum Event {
     Query {
         identifier: i32,
         number: u16,
+    },
+    /// The present time, in milliseconds.
+    Clock {
+        time: u64,
     },
     /// At most 255 values, since their number is one byte.
     SetAll {
@@ -61,7 +66,8 @@ pub struct Kind {
     pub blank: Event,
 }
 
-pub static KINDS: [Kind; 9] = [
+/// A row for each kind of body. An operate has two, side by side: without a wait, then with it.
+pub static KINDS: [Kind; 11] = [
     Kind {
         number: 1,
         word: "create",
@@ -72,7 +78,13 @@ pub static KINDS: [Kind; 9] = [
         number: 2,
         word: "operate",
         about: "all the operations, or sleep",
-        blank: Event::Operate { process: 0, identifier: 0, operations: Vec::new() },
+        blank: Event::Operate { process: 0, identifier: 0, wait: None, operations: Vec::new() },
+    },
+    Kind {
+        number: 8,
+        word: "operate",
+        about: "the same, asleep for at most WAIT ms",
+        blank: Event::Operate { process: 0, identifier: 0, wait: Some(0), operations: Vec::new() },
     },
     Kind {
         number: 3,
@@ -84,6 +96,12 @@ pub static KINDS: [Kind; 9] = [
     Kind { number: 5, word: "signal", about: "", blank: Event::Signal { process: 0 } },
     Kind { number: 6, word: "exit", about: "", blank: Event::Exit { process: 0 } },
     Kind { number: 7, word: "query", about: "", blank: Event::Query { identifier: 0, number: 0 } },
+    Kind {
+        number: 9,
+        word: "time",
+        about: "tell the present time, in ms",
+        blank: Event::Clock { time: 0 },
+    },
     Kind {
         number: 10,
         word: "set-all",
@@ -104,7 +122,10 @@ const OTHER_COUNT: &str = "no live set has this identifier, or it has another nu
 
 impl Event {
     pub fn kind(&self) -> &'static Kind {
-        let same = |kind: &&Kind| discriminant(&kind.blank) == discriminant(self);
+        let waits = |event: &Event| matches!(event, Event::Operate { wait: Some(_), .. });
+        let same = |kind: &&Kind| {
+            discriminant(&kind.blank) == discriminant(self) && waits(&kind.blank) == waits(self)
+        };
         KINDS.iter().find(same).expect("every kind stands in the table")
     }
 
@@ -116,9 +137,10 @@ impl Event {
                 ("read=", Field::Mask(read)),
                 ("alter=", Field::Mask(alter)),
             ],
-            Event::Operate { process, identifier, operations } => vec![
+            Event::Operate { process, identifier, wait, operations } => vec![
                 ("", Field::Process(process)),
                 ("set=", Field::Identifier(identifier)),
+                ("wait=", Field::Wait(wait)),
                 ("", Field::Operations(operations)),
             ],
             Event::SetValue { identifier, number, value } => vec![
@@ -132,6 +154,7 @@ impl Event {
             Event::Query { identifier, number } => {
                 vec![("", Field::Identifier(identifier)), ("number=", Field::Number(number))]
             }
+            Event::Clock { time } => vec![("", Field::Time(time))],
             Event::SetAll { identifier, values } => {
                 vec![("", Field::Identifier(identifier)), ("values=", Field::Values(values))]
             }
@@ -145,12 +168,14 @@ impl Event {
                 let semaphores = counted(u32::from(*count), "semaphore");
                 format!("create a set of {semaphores}, {}", permissions(*read, *alter))
             }
-            Event::Operate { process, identifier, operations } => {
+            Event::Operate { process, identifier, wait, operations } => {
+                let at_most = |wait| format!(", waiting {wait} ms at most");
+                let wait = wait.map(at_most).unwrap_or_default();
                 let operations = match &operations[..] {
                     [] => "no operations".to_string(),
                     all => array_in_words(all),
                 };
-                format!("process {process} on set {identifier}: {operations}")
+                format!("process {process} on set {identifier}{wait}: {operations}")
             }
             Event::SetValue { identifier, number, value } => {
                 format!("set semaphore {number} of set {identifier} to {value}")
@@ -161,6 +186,7 @@ impl Event {
             Event::Query { identifier, number } => {
                 format!("query semaphore {number} of set {identifier}")
             }
+            Event::Clock { time } => format!("the time is {time} ms"),
             Event::SetAll { identifier, values } => {
                 format!("set all of set {identifier} to {}", values::in_words(values))
             }
@@ -179,8 +205,8 @@ impl Event {
         )
     }
 
-    /// Why the event is refused with this code.
-    pub fn why_refused(&self, code: i32) -> Option<&'static str> {
+    /// Why the event is refused with this code; the position is that of the operation that decided.
+    pub fn why_refused(&self, code: i32, position: Option<usize>) -> Option<&'static str> {
         Some(match (self, code) {
             (Event::Create { .. }, 22) => "the count isn't 1 to 8",
             (Event::Create { .. }, 28) => "no slot is free",
@@ -190,6 +216,11 @@ impl Event {
             (Event::Operate { .. }, 7) => "too many operations",
             (Event::Operate { .. }, 27) => "the set has no such semaphore",
             (Event::Operate { .. }, 13) => "the set's masks don't permit it",
+            (Event::Operate { operations, wait: Some(0), .. }, 11)
+                if !nowait_at(operations, position) =>
+            {
+                "it would have to sleep, but may not wait"
+            }
             (Event::Operate { .. }, 11) => "it would have to sleep, but nowait is given",
             (Event::Operate { .. }, 34) => OUT_OF_RANGE,
             (Event::SetValue { .. } | Event::Query { .. }, 22) => NO_SEMAPHORE,
@@ -202,6 +233,11 @@ impl Event {
             _ => return None,
         })
     }
+}
+
+fn nowait_at(operations: &[Operation], position: Option<usize>) -> bool {
+    let operation = position.and_then(|position| operations.get(position));
+    operation.map_or(false, |operation| operation.flags & NOWAIT != 0)
 }
 
 fn permissions(read: u8, alter: u8) -> String {

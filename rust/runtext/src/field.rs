@@ -13,5 +13,9 @@ pub enum Field<'a> {
     /// The values of a whole set.
     Values(&'a mut Vec<i32>),
     Mask(&'a mut u8),
+    /// Milliseconds; a call without a wait has no such field in its body.
+    Wait(&'a mut Option<u32>),
+    /// Milliseconds.
+    Time(&'a mut u64),
     Operations(&'a mut Vec<Operation>),
 }

@@ -18,7 +18,7 @@ fn events() -> String {
     lines.map(|line| format!("{}\n", line.trim_end())).collect()
 }
 
-/// A line of the kind, with a sign for each field; masks may be left out.
+/// A line of the kind, with a sign for each field that it has; masks may be left out.
 fn form(kind: &Kind) -> String {
     let mut form = kind.word.to_string();
     for (name, field) in kind.blank.clone().fields() {
@@ -31,6 +31,9 @@ fn form(kind: &Kind) -> String {
             Field::Values(_) => "VALUES",
             Field::Mask(_) => "MASK",
             Field::Operations(_) => "OPERATION...",
+            Field::Wait(None) => continue,
+            Field::Wait(_) => "WAIT",
+            Field::Time(_) => "TIME",
         };
         form += &match field {
             Field::Mask(_) => format!(" [{name}{sign}]"),
@@ -48,11 +51,15 @@ mod tests {
     fn each_event_has_a_line() {
         let text = text();
         for line in [
-            "  create COUNT [read=MASK] [alter=MASK]    a set of COUNT semaphores\n",
-            "  operate PROCESS set=ID OPERATION...      all the operations, or sleep\n",
+            "  create COUNT [read=MASK] [alter=MASK]            a set of COUNT semaphores\n",
+            "  operate PROCESS set=ID OPERATION...              all the operations, or sleep\n",
+            "  operate PROCESS set=ID wait=WAIT OPERATION...    \
+            the same, asleep for at most WAIT ms\n",
             "  remove ID\n",
-            "  set-all ID values=VALUES                 set all values of a set at once\n",
-            "  read-all ID                              all values of a set, and how many wait\n",
+            "  time TIME                                        tell the present time, in ms\n",
+            "  set-all ID values=VALUES                         set all values of a set at once\n",
+            "  read-all ID                                      \
+            all values of a set, and how many wait\n",
         ] {
             assert!(text.contains(line), "{line} is not in\n{text}");
         }

@@ -2,20 +2,23 @@
 //!
 //! A text has one event a line (the grammar stands in `parse`); text and run file turn into each
 //! other exactly. A story shows a replay event by event: what was asked, what the program
-//! answered, at which operation a call stopped and why, who woke, and the values after it.
+//! answered, at which operation a call stopped and why, who woke or gave up waiting, and the values
+//! after it.
 //!
 //! Data goes one way: text or bytes to events (`parse`, `runfile`), events to bytes or text
 //! (`runfile`, `print`). A story hands bytes to the program, reads its lines (`answer`), and puts
 //! readings behind the events (`questions`) to learn the values. What the kinds of events are
 //! stands in `event`; texts, bodies and the help go by that. What a story shows is what the program
 //! wrote.
-//! One rule of the service is in here, to say at which value an operation decided (`decided`,
-//! `sleepers`): an array is judged in order, and one that is applied adds its amounts.
+//! Two rules of the service are in here. To say at which value an operation decided (`decided`,
+//! `sleepers`): an array is judged in order, and one that is applied adds its amounts. To say after
+//! how long a sleeper gave up (`clock`, `sleepers`): its wait begins at the time told last.
 
 #![forbid(unsafe_code)]
 
 mod answer;
 mod body;
+mod clock;
 mod codes;
 mod count;
 mod decided;

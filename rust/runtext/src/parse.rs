@@ -12,8 +12,8 @@
 //! values    = "none" | value {"," value}
 //! ```
 //!
-//! A mask left out is `all`. Numbers are decimal and go as far as their fields in the body; an
-//! amount may have a plus.
+//! A mask left out is `all`, and an operate without `wait=` may sleep for ever. Numbers are decimal
+//! and go as far as their fields in the body; an amount may have a plus.
 
 use crate::event::{Event, KINDS};
 use crate::field::Field;
@@ -28,6 +28,8 @@ const COUNT: &str = "a count of semaphores, 0 to 255";
 const PROCESS: &str = "a process, 0 to 255";
 const IDENTIFIER: &str = "an identifier, -2147483648 to 2147483647";
 const VALUE: &str = "a value, -2147483648 to 2147483647";
+const WAIT: &str = "a wait in milliseconds, 0 to 4294967295";
+const TIME: &str = "a time in milliseconds, 0 to 18446744073709551615";
 const END: &str = "the end of the line";
 
 /// The events of a text, which fit into one run file.
@@ -90,6 +92,10 @@ fn fill_in(event: &mut Event, words: &mut Words) -> Result<(), Mistake> {
             Field::Identifier(identifier) => *identifier = words.number(name, IDENTIFIER)?,
             Field::Number(number) => *number = words.number(name, NUMBER)?,
             Field::Value(value) => *value = words.number(name, VALUE)?,
+            Field::Time(time) => *time = words.number(name, TIME)?,
+            Field::Wait(wait) => {
+                *wait = words.option(name).map(|word| word.number(WAIT)).transpose()?;
+            }
             Field::Values(values) => {
                 *values = values::parse(words.field(name, values::EXPECTED)?)?;
             }
@@ -110,7 +116,8 @@ fn fill_in(event: &mut Event, words: &mut Words) -> Result<(), Mistake> {
 }
 
 fn kinds() -> String {
-    let words: Vec<&str> = KINDS.iter().map(|kind| kind.word).collect();
+    let mut words: Vec<&str> = KINDS.iter().map(|kind| kind.word).collect();
+    words.dedup();
     one_of(&words)
 }
 
@@ -138,17 +145,29 @@ mod tests {
             \tcreate 255 alter=1,8\n\
             operate 1 set=0 0:-1 1:+3/undo 2:0/nowait,undo#\n\
             operate 255 set=-2147483648\n\
+            operate 2 set=4 wait=0 0:-1\noperate 0 set=-1 wait=4294967295\n\
+            time 0\ntime 18446744073709551615\n\
             set 2147483647 number=65535 value=-2147483648\n\
             remove -1\nsignal 0\nexit 9\nquery 4 number=7\n\
             set-all -4 values=1,-2147483648,32768\nset-all 0 values=none\nread-all 5";
         let operation = |number, amount, flags| Operation { number, amount, flags };
+        let operate = |process, identifier, wait, operations| Event::Operate {
+            process,
+            identifier,
+            wait,
+            operations,
+        };
         let operations =
             vec![operation(0, -1, 0), operation(1, 3, UNDO), operation(2, 0, NOWAIT | UNDO)];
         let wanted = [
             Event::Create { count: 1, read: 0xFF, alter: 0 },
             Event::Create { count: 255, read: 0xFF, alter: 0x81 },
-            Event::Operate { process: 1, identifier: 0, operations },
-            Event::Operate { process: 255, identifier: i32::MIN, operations: vec![] },
+            operate(1, 0, None, operations),
+            operate(255, i32::MIN, None, vec![]),
+            operate(2, 4, Some(0), vec![operation(0, -1, 0)]),
+            operate(0, -1, Some(u32::MAX), vec![]),
+            Event::Clock { time: 0 },
+            Event::Clock { time: u64::MAX },
             Event::SetValue { identifier: i32::MAX, number: 65_535, value: i32::MIN },
             Event::Remove { identifier: -1 },
             Event::Signal { process: 0 },
@@ -170,7 +189,7 @@ mod tests {
 
     #[test]
     fn mistakes_have_line_column_and_what_was_expected() {
-        let kinds = "create, operate, set, remove, signal, exit, query, set-all or read-all";
+        let kinds = "create, operate, set, remove, signal, exit, query, time, set-all or read-all";
         let amount = "an amount, -32768 to 32767";
         let masks = "read=, alter= or the end of the line";
         let number = format!("number= with {NUMBER}");
@@ -194,6 +213,27 @@ mod tests {
             ("read-all", "1:9", IDENTIFIER, end),
             ("read-all 0 number=1", "1:12", END, "'number=1'"),
             ("exit 1\n\u{1}", "2:1", kinds, "'\\u{1}'"),
+        ]);
+    }
+
+    #[test]
+    fn mistakes_in_waits_and_times() {
+        let set = format!("set= with {IDENTIFIER}");
+        let operation = "an operation as in 0:-1 or 1:+3/undo";
+        have_mistakes(&[
+            ("operate 1 set=0 wait= 0:-1", "1:22", WAIT, "nothing"),
+            ("operate 1 set=0 wait=4294967296 0:-1", "1:22", WAIT, "'4294967296'"),
+            ("operate 1 set=0 wait=-1 0:-1", "1:22", WAIT, "'-1'"),
+            ("operate 1 set=0 wait=250ms 0:-1", "1:22", WAIT, "'250ms'"),
+            ("operate 1 set=0 wait=none 0:-1", "1:22", WAIT, "'none'"),
+            ("operate 1 wait=250 set=0 0:-1", "1:11", &set, "'wait=250'"),
+            ("operate 1 set=0 wait 250", "1:17", operation, "'wait'"),
+            ("operate 1 set=0 0:-1 wait=250", "1:22", operation, "'wait=250'"),
+            ("time", "1:5", TIME, "the end of the line"),
+            ("time -1", "1:6", TIME, "'-1'"),
+            ("time 18446744073709551616", "1:6", TIME, "'18446744073709551616'"),
+            ("time 1.5", "1:6", TIME, "'1.5'"),
+            ("time 1 2", "1:8", END, "'2'"),
         ]);
     }
 

@@ -20,7 +20,8 @@ fn line(event: &Event) -> String {
     line
 }
 
-/// One word for each field, but as many as there are operations.
+/// One word for each field, but none for a wait that isn't there, and as many as there are
+/// operations.
 fn words(field: Field) -> Vec<String> {
     match field {
         Field::Count(value) | Field::Process(value) => vec![value.to_string()],
@@ -28,6 +29,8 @@ fn words(field: Field) -> Vec<String> {
         Field::Identifier(value) | Field::Value(value) => vec![value.to_string()],
         Field::Values(values) => vec![values::name(values)],
         Field::Mask(mask) => vec![mask::name(*mask)],
+        Field::Wait(wait) => wait.iter().map(ToString::to_string).collect(),
+        Field::Time(time) => vec![time.to_string()],
         Field::Operations(operations) => operations.iter().map(ToString::to_string).collect(),
     }
 }

@@ -108,7 +108,7 @@ mod tests {
             words(&file)
         };
         assert_eq!(edited(6, 13), "bad 202: event 1: its offset is 13, not 12");
-        assert_eq!(edited(12, 9), "bad 203: event 1: there is no kind 9");
+        assert_eq!(edited(12, 12), "bad 203: event 1: there is no kind 12");
         let length = "bad 204: event 1: a body of kind 7 has 7 bytes here, not 5";
         assert_eq!(edited(12, 7), length);
         assert_eq!(words(&[1, 0, 6, 0, 0, 0]), "bad 204: event 0: the body is empty");
@@ -124,6 +124,15 @@ mod tests {
         for (body, wanted) in [
             (&[2, 1, 0, 0, 0, 0][..], 7),
             (&[2, 1, 0, 0, 0, 0, 1, 0], 13),
+            (&[8], 11),
+            (&[8, 1, 0, 0, 0, 0, 0], 11),
+            (&[8, 1, 0, 0, 0, 0, 0, 0, 0, 0], 11),
+            (&[8, 1, 0, 0, 0, 0, 0, 0, 0, 0, 0, 0], 11),
+            (&[8, 1, 0, 0, 0, 0, 0, 0, 0, 0, 1, 0, 0, 0, 0, 0], 17),
+            (&[8, 1, 0, 0, 0, 0, 0, 0, 0, 0, 255], 1_541),
+            (&[9], 9),
+            (&[9, 0, 0, 0, 0, 0, 0, 0], 9),
+            (&[9, 0, 0, 0, 0, 0, 0, 0, 0, 0], 9),
             (&[10, 0, 0, 0, 0], 6),
             (&[10, 0, 0, 0, 0, 0, 0], 6),
             (&[10, 0, 0, 0, 0, 2, 1, 0, 0, 0], 14),
@@ -138,8 +147,8 @@ mod tests {
     }
 
     #[test]
-    fn kinds_between_and_behind_are_unknown() {
-        for kind in [0, 8, 9, 12, 255] {
+    fn kinds_before_and_behind_are_unknown() {
+        for kind in [0, 12, 255] {
             let wanted = format!("bad 203: event 0: there is no kind {kind}");
             assert_eq!(words(&alone(&[kind, 0, 0, 0, 0])), wanted);
         }

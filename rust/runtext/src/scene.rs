@@ -1,6 +1,7 @@
 //! What there is to tell about one event.
 
 use crate::answer::{Answer, Reading, Semaphore, Waking};
+use crate::clock;
 use crate::decided;
 use crate::event::Event;
 use crate::questions::Question;
@@ -46,37 +47,52 @@ impl Scene {
     pub fn tell(&self, position: usize, sleepers: &Sleepers) -> String {
         let mut story = wrapped(&format!("event {position}:"), &self.event.in_words());
         story += &row("line", &format!("{position} {}", self.line));
-        story += &row("answer", &words::answer(&self.event, &self.answer, self.why()));
+        story += &row("answer", &words::answer(&self.event, &self.answer, self.why(sleepers)));
         if let Answer::Report { wakings, .. } = &self.answer {
             for (index, waking) in wakings.iter().enumerate() {
                 let why = self.why_woken(waking, &wakings[index + 1..], sleepers);
                 story += &row("wakes", &words::waking(waking, why));
             }
         }
-        story + &self.values() + &self.waits()
+        story + &self.until(sleepers) + &self.values() + &self.waits()
     }
 
-    /// Why the operation that the answer names decided. An array that sleeps or is refused changes
-    /// nothing, so it was judged on the values after the event.
-    fn why(&self) -> Option<String> {
-        match &self.event {
-            Event::Operate { identifier, operations, .. } => {
+    /// Why the operation that the answer names decided, or a time is refused. An array that sleeps
+    /// or is refused changes nothing, so it was judged on the values after the event.
+    fn why(&self, sleepers: &Sleepers) -> Option<String> {
+        match (&self.event, self.answer.code()) {
+            (Event::Operate { identifier, operations, .. }, code) => {
                 let before = |number| self.value(*identifier, number);
-                decided::why(self.answer.code(), self.answer.position()?, operations, before)
+                decided::why(code, self.answer.position()?, operations, before)
             }
+            (Event::Clock { time }, 22) => clock::why_refused(*time, sleepers.time),
             _ => None,
         }
     }
 
-    /// Why the operation that the waking names decided. Its look came before the later wakings, so
-    /// what they add is taken back.
+    /// Why the operation that the waking names decided, or after how long the sleeper gave up. A
+    /// look came before the later wakings, so what they add is taken back.
     fn why_woken(&self, waking: &Waking, later: &[Waking], sleepers: &Sleepers) -> Option<String> {
         let call = sleepers.call(waking.process)?;
         let before = |number| {
             let after = self.value(call.identifier, number)?;
             Some(after - sleepers.applied(later, call.identifier, number)?)
         };
-        decided::why(waking.code, waking.position?, call.operations, before)
+        match (&self.event, waking.position) {
+            (_, Some(position)) => decided::why(waking.code, position, call.operations, before),
+            (Event::Clock { time }, None) => clock::gave_up(call.start, call.wait?, *time),
+            _ => None,
+        }
+    }
+
+    /// When the wait of a call that went to sleep is over.
+    fn until(&self, sleepers: &Sleepers) -> String {
+        match (&self.event, self.answer.code()) {
+            (Event::Operate { wait: Some(wait), .. }, -1) => {
+                row("until", &format!("{} ms", clock::end(sleepers.time, *wait)))
+            }
+            _ => String::new(),
+        }
     }
 
     /// The value of a semaphore after the event, if the program was asked.
@@ -135,7 +151,8 @@ mod tests {
         scene
     }
 
-    /// The rows of the last scene, the others having come before, that have this title.
+    /// The rows of the last scene, the others having come before, that have this title; each in one
+    /// line.
     fn rows(scenes: &[Scene], title: &str) -> String {
         let mut sleepers = Sleepers::default();
         let mut told = String::new();
@@ -143,6 +160,7 @@ mod tests {
             told = scene.tell(0, &sleepers);
             sleepers.note(&scene.event, &scene.answer);
         }
+        let told = told.replace(&format!("\n{:10}", ""), " ");
         let rows = told.lines().filter_map(|row| row.strip_prefix(&format!("  {title:<8}")));
         rows.collect::<Vec<_>>().join("\n")
     }
@@ -183,6 +201,47 @@ mod tests {
         scenes.push(scene("set 0 number=0 value=2", line, &[]));
         let wanted = "process 3: ERANGE (34) at operation 1, a value or";
         assert!(rows(&scenes, "wakes").contains(wanted));
+    }
+
+    /// The wait of process 2 is over at 1250, that of process 3 when the time is told.
+    #[test]
+    fn a_sleeper_that_gives_up_says_after_how_long() {
+        let mut scenes = vec![
+            scene("time 1000", "0 0 0", &[0]),
+            scene("operate 2 set=0 wait=250 0:-1", "-1@0 0 0", &[0]),
+            scene("time 1100", "0 0 0", &[0]),
+            scene("operate 3 set=0 wait=250 0:-1", "-1@0 0 0", &[0]),
+        ];
+        assert_eq!(rows(&scenes[..2], "until"), "1250 ms");
+        assert_eq!(rows(&scenes, "until"), "1350 ms");
+        scenes.push(scene("time 1350", "0 0 0 2=11 3=11", &[0]));
+        let wanted =
+            "process 2: EAGAIN (11): gave up waiting after 250 ms, over at 1250 ms and told at 1350 ms\n\
+            process 3: EAGAIN (11): gave up waiting after 250 ms";
+        assert_eq!(rows(&scenes, "answer"), "done (0)");
+        assert_eq!(rows(&scenes, "wakes"), wanted);
+    }
+
+    /// Nothing is made up for a sleeper that has no wait, or whose wait is not over.
+    #[test]
+    fn a_sleeper_that_is_not_due_only_gave_up() {
+        for call in ["operate 1 set=0 0:-1", "operate 1 set=0 wait=11 0:-1"] {
+            let scenes = [scene(call, "-1@0 0 0", &[0]), scene("time 10", "0 0 0 1=11", &[0])];
+            assert_eq!(rows(&scenes, "wakes"), "process 1: EAGAIN (11), gave up waiting");
+        }
+    }
+
+    #[test]
+    fn a_refused_time_says_why() {
+        let refused = |text| {
+            let scenes = [scene("time 1000", "0 0 0", &[]), scene(text, "22 0 0", &[])];
+            rows(&scenes, "answer")
+        };
+        let wanted = "refused: EINVAL (22): it is before 1000 ms, the time told last";
+        assert_eq!(refused("time 999"), wanted);
+        let wanted = "refused: EINVAL (22): it is above 9223372036854775807 ms, the largest time";
+        assert_eq!(refused("time 9223372036854775808"), wanted);
+        assert_eq!(refused("time 1000"), "refused: EINVAL (22)");
     }
 
     /// All values are set before the first look, which is told with them.

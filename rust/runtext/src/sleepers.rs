@@ -1,4 +1,4 @@
-//! The arrays that processes sleep on, as the answers tell.
+//! The calls that processes sleep on, and the time, as the answers tell.
 
 use std::collections::BTreeMap;
 
@@ -11,22 +11,35 @@ use crate::operation::{added, Operation};
 pub struct Call<'a> {
     pub identifier: i32,
     pub operations: &'a [Operation],
+    /// The time at which it went to sleep, and how long it may wait, if not for ever.
+    pub start: u64,
+    pub wait: Option<u32>,
 }
 
-/// By process the last call that went to sleep, which is the one that a waking ends.
 #[derive(Default)]
-pub struct Sleepers<'a>(BTreeMap<u8, Call<'a>>);
+pub struct Sleepers<'a> {
+    /// By process the last call that went to sleep, which is the one that a waking ends.
+    calls: BTreeMap<u8, Call<'a>>,
+    /// The time told last; a refused one isn't told.
+    pub time: u64,
+}
 
 impl<'a> Sleepers<'a> {
-    /// Keeps the call of an operate that is answered with sleep.
+    /// Keeps the call of an operate that is answered with sleep, and the time that is accepted.
     pub fn note(&mut self, event: &'a Event, answer: &Answer) {
-        if let (Event::Operate { process, identifier, operations }, -1) = (event, answer.code()) {
-            self.0.insert(*process, Call { identifier: *identifier, operations });
+        match (event, answer.code()) {
+            (Event::Operate { process, identifier, wait, operations }, -1) => {
+                let (identifier, wait) = (*identifier, *wait);
+                let call = Call { identifier, operations, start: self.time, wait };
+                self.calls.insert(*process, call);
+            }
+            (Event::Clock { time }, 0) => self.time = *time,
+            _ => {}
         }
     }
 
     pub fn call(&self, process: u8) -> Option<Call<'a>> {
-        self.0.get(&process).copied()
+        self.calls.get(&process).copied()
     }
 
     /// What those of the wakings that are done add to a semaphore of a set together. The array of
@@ -71,6 +84,17 @@ mod tests {
         let call = sleepers.call(1).expect("it sleeps");
         assert_eq!((call.identifier, call.operations.len()), (4, 2));
         assert_eq!(sleepers.call(2), None);
+    }
+
+    /// A time that is refused is not told.
+    #[test]
+    fn a_call_begins_at_the_time_told_last() {
+        let events =
+            events("operate 1 set=0 wait=250 0:-1\ntime 100\ntime 99\noperate 2 set=0 0:-1\n");
+        let sleepers = asleep(&events, [-1, 0, 22, -1]);
+        let begun = |process| sleepers.call(process).map(|call| (call.start, call.wait));
+        assert_eq!(begun(1), Some((0, Some(250))));
+        assert_eq!(begun(2), Some((100, None)));
     }
 
     /// Process 3 sleeps on another set, and 4 is ended without being applied.

@@ -1,14 +1,14 @@
 //! Answers in words.
 
 use crate::answer::{Answer, Semaphore, Waits, Waking};
-use crate::codes::{self, OUT_OF_RANGE};
+use crate::codes::{self, GAVE_UP, OUT_OF_RANGE};
 use crate::count::counted;
 use crate::event::Event;
 
 /// The answer by the name of its code, with all else that the line has but its wakings, and with
-/// why the operation that it names decided, where that is known.
+/// why it is so, where that is known.
 pub fn answer(event: &Event, answer: &Answer, why: Option<String>) -> String {
-    let meaning = event.why_refused(answer.code());
+    let meaning = event.why_refused(answer.code(), answer.position());
     let mut words = coded(answer.code(), answer.position(), why, meaning);
     if answer.code() > 0 {
         words = format!("refused: {words}");
@@ -53,9 +53,9 @@ fn read(semaphores: &[Semaphore]) -> String {
     words
 }
 
-/// The waking, with why the operation that it names decided, where that is known.
+/// The waking, with why it came, where that is known.
 pub fn waking(waking: &Waking, why: Option<String>) -> String {
-    let meaning = codes::why_ended(waking.code);
+    let meaning = codes::why_ended(waking.code, waking.position);
     let words = coded(waking.code, waking.position, why, meaning);
     format!("process {}: {words}", waking.process)
 }
@@ -68,7 +68,7 @@ fn coded(code: i32, position: Option<usize>, why: Option<String>, meaning: Optio
     }
     match (why, meaning) {
         // Why says already which of them it is.
-        (Some(why), None | Some(OUT_OF_RANGE)) => format!("{words}: {why}"),
+        (Some(why), None | Some(OUT_OF_RANGE | GAVE_UP)) => format!("{words}: {why}"),
         (Some(why), Some(meaning)) => format!("{words}: {why}; {meaning}"),
         (None, Some(meaning)) => format!("{words}, {meaning}"),
         (None, None) => words,
@@ -78,6 +78,12 @@ fn coded(code: i32, position: Option<usize>, why: Option<String>, meaning: Optio
 #[cfg(test)]
 mod tests {
     use super::*;
+    use crate::parse;
+
+    /// An event as in a text.
+    fn event(line: &str) -> Event {
+        parse::events(line.as_bytes()).expect("an event").remove(0)
+    }
 
     fn told(event: &Event, code: i32, position: Option<usize>, why: &str) -> String {
         let report = Answer::Report { code, position, value: 0, looks: 0, wakings: vec![] };
@@ -86,7 +92,7 @@ mod tests {
 
     #[test]
     fn answers_with_the_operation_that_decided() {
-        let operate = Event::Operate { process: 1, identifier: 0, operations: vec![] };
+        let operate = event("operate 1 set=0");
         let nowait = "it would have to sleep, but nowait is given";
         for (code, position, why, wanted) in [
             (-1, None, "", "asleep (-1)".to_string()),
@@ -103,6 +109,27 @@ mod tests {
         let set_value = Event::SetValue { identifier: 0, number: 0, value: 40_000 };
         let wanted = "refused: ERANGE (34), the value isn't 0 to 32767";
         assert_eq!(told(&set_value, 34, None, ""), wanted);
+    }
+
+    /// The operation that stopped tells whether nowait or a wait of 0 kept the call from sleeping.
+    #[test]
+    fn calls_that_may_not_wait() {
+        let operate = event("operate 1 set=0 wait=0 0:-1/nowait 1:-1");
+        for (position, meaning) in [(0, "nowait is given"), (1, "may not wait")] {
+            let wanted = format!(
+                "refused: EAGAIN (11) at operation {position}: so; it would have to sleep, but {meaning}"
+            );
+            assert_eq!(told(&operate, 11, Some(position), "so"), wanted);
+        }
+        let operate = event("operate 1 set=0 wait=1 0:-1/nowait");
+        assert!(told(&operate, 11, Some(0), "").ends_with("nowait is given"));
+    }
+
+    #[test]
+    fn times_that_are_told_or_refused() {
+        let time = event("time 900");
+        assert_eq!(told(&time, 0, None, ""), "done (0)");
+        assert_eq!(told(&time, 22, None, "so"), "refused: EINVAL (22): so");
     }
 
     #[test]
@@ -143,6 +170,8 @@ mod tests {
             (4, None, None, "EINTR (4), by the signal".to_string()),
             (11, Some(1), None, format!("EAGAIN (11) at operation 1, {nowait}")),
             (11, Some(1), Some("so"), format!("EAGAIN (11) at operation 1: so; {nowait}")),
+            (11, None, None, "EAGAIN (11), gave up waiting".to_string()),
+            (11, None, Some("so"), "EAGAIN (11): so".to_string()),
             (34, Some(2), None, format!("ERANGE (34) at operation 2, {OUT_OF_RANGE}")),
             (34, Some(31), Some("so"), "ERANGE (34) at operation 31: so".to_string()),
         ] {

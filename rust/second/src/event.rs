@@ -1,18 +1,19 @@
-//! The nine events and their bodies in a run file, read and written.
+//! The ten events and their bodies in a run file, read and written.
 
 use crate::bad::Bad;
 
 /// An event, with the fields as they stand in its body; an operate's operations and a setting's
-/// values are lent.
+/// values are lent. An operate has a body of one kind without a wait, and of another with it.
 #[derive(Clone, Copy, Debug)]
 pub enum Event<'a> {
     Create { count: u8, read: u8, alter: u8 },
-    Operate { process: u8, identifier: i32, operations: &'a [u8] },
+    Operate { process: u8, identifier: i32, wait: Option<u32>, operations: &'a [u8] },
     SetValue { identifier: i32, number: u16, value: i32 },
     Remove { identifier: i32 },
     Signal { process: u8 },
     Exit { process: u8 },
     Query { identifier: i32, number: u16 },
+    Clock { time: u64 },
     SetAll { identifier: i32, values: &'a [u8] },
     ReadAll { identifier: i32 },
 }
@@ -22,38 +23,52 @@ pub const OPERATION: usize = 6;
 pub const VALUE: usize = 4;
 
 impl<'a> Event<'a> {
-    /// Reads a body, or says what is wrong with it.
+    /// Reads a body, or says what is wrong with it. Where it is inlined, a file is checked without
+    /// making its events.
+    #[inline(always)]
     pub fn decode(body: &'a [u8]) -> Result<Event<'a>, Bad> {
         Ok(match *body {
             [1, count, read, alter] => Event::Create { count, read, alter },
             [2, process, a, b, c, d, number, ref operations @ ..]
                 if operations.len() == OPERATION * usize::from(number) =>
             {
-                let identifier = i32::from_le_bytes([a, b, c, d]);
-                Event::Operate { process, identifier, operations }
+                Event::Operate { process, identifier: signed([a, b, c, d]), wait: None, operations }
             }
             [3, a, b, c, d, n, m, e, f, g, h] => Event::SetValue {
-                identifier: i32::from_le_bytes([a, b, c, d]),
+                identifier: signed([a, b, c, d]),
                 number: u16::from_le_bytes([n, m]),
-                value: i32::from_le_bytes([e, f, g, h]),
+                value: signed([e, f, g, h]),
             },
-            [4, a, b, c, d] => Event::Remove { identifier: i32::from_le_bytes([a, b, c, d]) },
+            [4, a, b, c, d] => Event::Remove { identifier: signed([a, b, c, d]) },
             [5, process] => Event::Signal { process },
             [6, process] => Event::Exit { process },
             [7, a, b, c, d, n, m] => Event::Query {
-                identifier: i32::from_le_bytes([a, b, c, d]),
+                identifier: signed([a, b, c, d]),
                 number: u16::from_le_bytes([n, m]),
             },
+            [8, process, a, b, c, d, e, f, g, h, number, ref operations @ ..]
+                if operations.len() == OPERATION * usize::from(number) =>
+            {
+                let wait = Some(u32::from_le_bytes([e, f, g, h]));
+                Event::Operate { process, identifier: signed([a, b, c, d]), wait, operations }
+            }
+            [9, a, b, c, d, e, f, g, h] => {
+                Event::Clock { time: u64::from_le_bytes([a, b, c, d, e, f, g, h]) }
+            }
             [10, a, b, c, d, number, ref values @ ..]
                 if values.len() == VALUE * usize::from(number) =>
             {
-                Event::SetAll { identifier: i32::from_le_bytes([a, b, c, d]), values }
+                Event::SetAll { identifier: signed([a, b, c, d]), values }
             }
-            [11, a, b, c, d] => Event::ReadAll { identifier: i32::from_le_bytes([a, b, c, d]) },
-            [] | [1..=7 | 10..=11, ..] => return Err(Bad::Body),
+            [11, a, b, c, d] => Event::ReadAll { identifier: signed([a, b, c, d]) },
+            [] | [1..=11, ..] => return Err(Bad::Body),
             [_, ..] => return Err(Bad::Kind),
         })
     }
+}
+
+fn signed(bytes: [u8; 4]) -> i32 {
+    i32::from_le_bytes(bytes)
 }
 
 /// The body of one event, as the functions below write it for tests and for the comparer.
@@ -65,10 +80,21 @@ pub fn create(count: u8, read: u8, alter: u8) -> Body {
     vec![1, count, read, alter]
 }
 
-/// The number of operations is the low byte of their count.
 pub fn operate(process: u8, identifier: i32, operations: &[Operation]) -> Body {
     let [a, b, c, d] = identifier.to_le_bytes();
-    let mut body = vec![2, process, a, b, c, d, operations.len() as u8];
+    with_operations(vec![2, process, a, b, c, d], operations)
+}
+
+/// An operate with a wait, in milliseconds.
+pub fn timed_operate(process: u8, identifier: i32, wait: u32, operations: &[Operation]) -> Body {
+    let [a, b, c, d] = identifier.to_le_bytes();
+    let [e, f, g, h] = wait.to_le_bytes();
+    with_operations(vec![8, process, a, b, c, d, e, f, g, h], operations)
+}
+
+/// The number of operations is the low byte of their count.
+fn with_operations(mut body: Body, operations: &[Operation]) -> Body {
+    body.push(operations.len() as u8);
     for (number, amount, flags) in operations {
         body.extend_from_slice(&number.to_le_bytes());
         body.extend_from_slice(&amount.to_le_bytes());
@@ -101,6 +127,11 @@ pub fn query(identifier: i32, number: u16) -> Body {
     let [a, b, c, d] = identifier.to_le_bytes();
     let [n, m] = number.to_le_bytes();
     vec![7, a, b, c, d, n, m]
+}
+
+pub fn clock(time: u64) -> Body {
+    let [a, b, c, d, e, f, g, h] = time.to_le_bytes();
+    vec![9, a, b, c, d, e, f, g, h]
 }
 
 /// The number of values is the low byte of their count.

@@ -1,6 +1,7 @@
-//! The nine events of a host.
+//! The ten events of a host.
 
 use crate::answer::{Answer, Reading, Report, State, ASLEEP};
+use crate::clock::{Wait, TIME_MAX};
 use crate::errno::Errno;
 use crate::event::Event;
 use crate::host::{identifier, Host, SLOTS};
@@ -12,8 +13,8 @@ impl Host {
     pub fn handle(&mut self, event: &Event) -> Answer {
         match *event {
             Event::Create { count, read, alter } => self.create(count, read, alter).into(),
-            Event::Operate { process, identifier, operations } => {
-                self.operate(process, identifier, operations).into()
+            Event::Operate { process, identifier, wait, operations } => {
+                self.operate(process, identifier, wait, operations).into()
             }
             Event::SetValue { identifier, number, value } => {
                 self.set_value(identifier, number, value).into()
@@ -22,6 +23,7 @@ impl Host {
             Event::Signal { process } => self.signal(process).into(),
             Event::Exit { process } => self.exit(process).into(),
             Event::Query { identifier, number } => self.query(identifier, number).into(),
+            Event::Clock { time } => self.clock(time).into(),
             Event::SetAll { identifier, values } => self.set_all(identifier, values).into(),
             Event::ReadAll { identifier } => self.query_set(identifier).into(),
         }
@@ -39,7 +41,13 @@ impl Host {
         Ok(Report { value: identifier(slot, set), ..Report::default() })
     }
 
-    fn operate(&mut self, process: u8, identifier: i32, bytes: &[u8]) -> Result<Report, Errno> {
+    fn operate(
+        &mut self,
+        process: u8,
+        identifier: i32,
+        wait: Option<u32>,
+        bytes: &[u8],
+    ) -> Result<Report, Errno> {
         let process = Process::new(process)?;
         if self.queue.asleep() & process.bit() != 0 {
             return Err(Errno::Ebusy);
@@ -53,9 +61,14 @@ impl Host {
             Outcome::Refused(errno, position) => {
                 Ok(Report::decided_at(position, errno.number().into()))
             }
+            // There is no time to sleep.
+            Outcome::Sleep(position) if wait == Some(0) => {
+                Ok(Report::decided_at(position, Errno::Eagain.number().into()))
+            }
             Outcome::Sleep(position) => {
                 let names = array.names();
-                self.queue.push(process, slot, names);
+                let wait = Wait { start: self.time, length: wait };
+                self.queue.push(process, slot, names, wait);
                 Ok(Report::decided_at(position, ASLEEP))
             }
             Outcome::Done => Ok(self.treated(slot, touched)),
@@ -134,6 +147,19 @@ impl Host {
             }
         }
         Ok(state)
+    }
+
+    /// Tells the time. Whose wait is over ends; no value changes, so that nobody is looked at.
+    fn clock(&mut self, time: u64) -> Result<Report, Errno> {
+        if !(self.time..=TIME_MAX).contains(&time) {
+            return Err(Errno::Einval);
+        }
+        self.time = time;
+        let mut report = Report::default();
+        while let Some(process) = self.queue.take_oldest_over(time) {
+            report.wakings.push(process, Errno::Eagain.number(), None);
+        }
+        Ok(report)
     }
 
     fn set_all(&mut self, identifier: i32, values: &[u8]) -> Result<Report, Errno> {

@@ -18,12 +18,14 @@ pub struct Host {
     pub(crate) rule: Rule,
     pub(crate) sets: [Set; SLOTS],
     pub(crate) queue: Queue,
+    /// The time last told.
+    pub(crate) time: u64,
 }
 
 impl Host {
     /// A fresh host that wakes by `rule`.
     pub fn new(rule: Rule) -> Host {
-        Host { rule, sets: [Set::FREE; SLOTS], queue: Queue::new() }
+        Host { rule, sets: [Set::FREE; SLOTS], queue: Queue::new(), time: 0 }
     }
 
     /// The live sets with their identifiers, from slot 0 up.
@@ -35,6 +37,16 @@ impl Host {
     /// The processes asleep, as a mask.
     pub fn asleep(&self) -> u8 {
         self.queue.asleep()
+    }
+
+    /// The time last told, in milliseconds.
+    pub fn time(&self) -> u64 {
+        self.time
+    }
+
+    /// The times at which waits of sleepers are over, the oldest sleeper's first.
+    pub fn ends(&self) -> impl Iterator<Item = u64> + '_ {
+        self.queue.ends()
     }
 
     /// The slot of the live set with this identifier.

@@ -7,6 +7,7 @@
 
 mod answer;
 mod bad;
+mod clock;
 mod errno;
 pub mod event;
 mod handle;
@@ -22,6 +23,7 @@ mod waking;
 
 pub use answer::{Answer, Reading, Report, State, Waking, Wakings};
 pub use bad::Bad;
+pub use clock::TIME_MAX;
 pub use errno::Errno;
 pub use event::Event;
 pub use host::{Host, Rule};

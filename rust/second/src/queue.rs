@@ -1,5 +1,6 @@
 //! The sleeping calls of all sets, oldest first.
 
+use crate::clock::Wait;
 use crate::errno::Errno;
 use crate::judge::Array;
 use crate::process::{Process, PROCESSES};
@@ -12,6 +13,7 @@ pub struct Sleeper {
     pub array: Array,
     /// The mask of the semaphores its array names.
     pub names: u8,
+    pub wait: Wait,
 }
 
 #[derive(Clone, Debug)]
@@ -44,12 +46,13 @@ impl Queue {
     }
 
     /// The process sleeps on its last call, at the set in this slot.
-    pub fn push(&mut self, process: Process, slot: usize, names: u8) {
+    pub fn push(&mut self, process: Process, slot: usize, names: u8, wait: Wait) {
         self.order.push(process);
         self.asleep |= process.bit();
         let call = &mut self.calls[process.index()];
         call.slot = slot;
         call.names = names;
+        call.wait = wait;
     }
 
     /// Takes the process out; says whether it was asleep.
@@ -83,6 +86,19 @@ impl Queue {
         let (oldest, _) = self.of_set(slot).next()?;
         self.take_out(oldest);
         Some(oldest)
+    }
+
+    /// Takes out the oldest of those whose wait is over by this time.
+    pub fn take_oldest_over(&mut self, time: u64) -> Option<Process> {
+        let mut sleepers = self.order.iter().copied();
+        let oldest = sleepers.find(|&process| self.call(process).wait.is_over(time))?;
+        self.take_out(oldest);
+        Some(oldest)
+    }
+
+    /// The times at which waits are over, the oldest sleeper's first.
+    pub fn ends(&self) -> impl Iterator<Item = u64> + '_ {
+        self.order.iter().filter_map(|&process| self.call(process).wait.end())
     }
 
     /// The sleepers of one set that name a semaphore of the mask, oldest first.

@@ -9,7 +9,7 @@ use std::mem::size_of;
 use crate::limits::{OPERATIONS, PROCESSES, SEMAPHORES, SETS, VALUE_MAX};
 
 /// All that a host holds but the adjustments.
-pub type Row = [u8; 1_685];
+pub type Row = [u8; 1_821];
 
 /// The undo adjustments, of each process for each semaphore.
 pub type Adjustments = [i16; PROCESSES * SETS * SEMAPHORES];
@@ -138,6 +138,18 @@ extern "C" {
         bytes: usize,
     ) -> Told;
 
+    /// The wait is in milliseconds; the operations are as above.
+    pub fn vairolent_operate_within_in(
+        row: &mut Row,
+        adjustments: &mut Adjustments,
+        wakings: &mut List,
+        process: u8,
+        identifier: i32,
+        wait: u32,
+        operations: *const u8,
+        bytes: usize,
+    ) -> Told;
+
     pub fn vairolent_set_value_in(
         row: &mut Row,
         adjustments: &mut Adjustments,
@@ -176,6 +188,13 @@ extern "C" {
         adjustments: &mut Adjustments,
         wakings: &mut List,
         process: u8,
+    ) -> Told;
+
+    pub fn vairolent_clock_in(
+        row: &mut Row,
+        adjustments: &mut Adjustments,
+        wakings: &mut List,
+        time: u64,
     ) -> Told;
 
     pub fn vairolent_query_in(

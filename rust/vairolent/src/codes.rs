@@ -19,10 +19,15 @@ pub const DONE: Code = code(0, "done", "");
 pub const ESRCH: Code = code(3, "ESRCH", "no such process");
 pub const EINTR: Code = code(4, "EINTR", "a signal interrupted it");
 pub const E2BIG: Code = code(7, "E2BIG", "too many operations");
-pub const EAGAIN: Code = code(11, "EAGAIN", "an operation with IPC_NOWAIT would sleep");
+/// Of an operation.
+pub const EAGAIN: Code = code(11, "EAGAIN", "an operation would sleep, and may not");
+/// Of a wait.
+pub const EAGAIN_BY_CLOCK: Code = code(11, "EAGAIN", "its wait is over");
 pub const EACCES: Code = code(13, "EACCES", "not permitted");
 pub const EBUSY: Code = code(16, "EBUSY", "the process is asleep");
 pub const EINVAL: Code = code(22, "EINVAL", "no such set, or a bad argument");
+/// Of a time to tell.
+pub const EINVAL_TO_TELL: Code = code(22, "EINVAL", "a time is below the last, or above 2^63-1");
 pub const EFBIG: Code = code(27, "EFBIG", "a semaphore number is at or above the set's count");
 pub const ENOSPC: Code = code(28, "ENOSPC", "no slot is free");
 /// Of an operation.
@@ -47,7 +52,8 @@ impl Code {
 }
 
 /// An enum in which each variant stands for a code, with a position where an operation decided. A
-/// code may stand once with a position and once without.
+/// code may stand once with a position and once without. Where it stands twice alike it means the
+/// first; the event that means the other says so.
 macro_rules! coded {
     (
         $(#[$about:meta])*

@@ -28,7 +28,7 @@ coded! {
     /// assert_eq!(error, Error::WouldSleep { position: 1 });
     /// assert_eq!(
     ///     error.to_string(),
-    ///     "EAGAIN (11) at operation 1: an operation with IPC_NOWAIT would sleep"
+    ///     "EAGAIN (11) at operation 1: an operation would sleep, and may not"
     /// );
     /// let error = host.operate(9, set, &operations).unwrap_err();
     /// assert_eq!((error, error.position()), (Error::NoProcess, None));
@@ -54,7 +54,9 @@ coded! {
         NoSlot = ENOSPC,
         /// ERANGE: the value of a set value, or one of a set all, is not 0 to 32,767.
         BadValue = ERANGE_TO_SET,
-        /// EAGAIN: an operation with IPC_NOWAIT would sleep.
+        /// EINVAL: the time of a clock is below the last told, or above 2^63-1.
+        BadTime = EINVAL_TO_TELL,
+        /// EAGAIN: an operation would sleep, and has IPC_NOWAIT, or the call has a wait of 0.
         WouldSleep { position } = EAGAIN,
         /// ERANGE: by an operation a value would leave 0 to 32,767, or an adjustment -32,767 to
         /// 32,767.
@@ -89,6 +91,12 @@ mod tests {
     fn one_code_with_a_position_and_without() {
         assert_eq!(Error::check(34, None), Err(Error::BadValue));
         assert_eq!(Error::check(34, Some(2)), Err(Error::OutOfRange { position: 2 }));
+    }
+
+    #[test]
+    fn one_code_twice_without_a_position() {
+        assert_eq!(Error::BadTime.code(), Error::Invalid.code());
+        assert_eq!(Error::check(22, None), Err(Error::Invalid));
     }
 
     #[test]

@@ -1,4 +1,4 @@
-//! The host, and the nine events on it.
+//! The host, and the ten events on it.
 
 use std::fmt;
 use std::mem::size_of_val;
@@ -10,8 +10,8 @@ use crate::operation::Operation;
 use crate::set::Set;
 use crate::wakings::Wakings;
 
-/// All that the service knows: the sets, the undo adjustments and the sleepers. It is some two
-/// thousand bytes in itself, with nothing outside of it.
+/// All that the service knows: the sets, the undo adjustments, the sleepers and the time last told.
+/// It is some two thousand bytes in itself, with nothing outside of it.
 ///
 /// Only the events change a host, so it is always fresh or as the last event left it. That is the
 /// one premise of what is proved about them, and it holds of a clone too.
@@ -25,6 +25,8 @@ use crate::wakings::Wakings;
 /// decided. Then those who name a semaphore whose value it changed are to be judged too, and it
 /// begins again with the oldest, until nobody is left to be judged. Each such judging is a look. So
 /// nobody sleeps on who could finish.
+///
+/// A removal, a signal and [the clock](Host::clock) end sleepers without judging them.
 ///
 /// # Equality
 ///
@@ -71,8 +73,16 @@ fn settled(told: Told, list: List) -> Result<(Told, Wakings), Error> {
     Ok((told, wakings))
 }
 
+/// What becomes of a call that is not refused.
+fn answered((told, wakings): (Told, Wakings)) -> Answer {
+    match told.position.get() {
+        Some(position) => Answer::Asleep { position },
+        None => Answer::Done(wakings),
+    }
+}
+
 impl Host {
-    /// A fresh host: four free slots, every adjustment at zero, no sleepers.
+    /// A fresh host: four free slots, every adjustment at zero, no sleepers, and time 0.
     ///
     /// # Panics
     ///
@@ -172,12 +182,44 @@ impl Host {
     ) -> Result<Answer, Error> {
         let bytes = size_of_val(operations);
         let operations = operations.as_ptr().cast();
-        let (told, wakings) =
-            lend!(self to vairolent_operate_in(process, identifier, operations, bytes))?;
-        Ok(match told.position.get() {
-            Some(position) => Answer::Asleep { position },
-            None => Answer::Done(wakings),
-        })
+        lend!(self to vairolent_operate_in(process, identifier, operations, bytes)).map(answered)
+    }
+
+    /// Does operations as [`Host::operate`] does, but sleeps for a wait at most, in milliseconds.
+    ///
+    /// Where the process would sleep, its wait begins at the time last told, and no look begins it
+    /// anew. It sleeps until it is woken, or until [`Host::clock`] tells a time at or above this start
+    /// plus the wait. [`u32::MAX`] is a wait as any other.
+    ///
+    /// # Errors
+    ///
+    /// Those of [`Host::operate`], in the same order. Where the process would sleep and the wait is 0:
+    ///
+    /// - [`Error::WouldSleep`], with the position of the operation that stops.
+    ///
+    /// ```
+    /// use vairolent::{Answer, Error, Host, Operation, ALL};
+    ///
+    /// let mut host = Host::new();
+    /// let set = host.create(1, ALL, ALL)?;
+    /// let take = [Operation::new(0, -1)];
+    /// assert_eq!(host.operate_within(1, set, &take, 0), Err(Error::WouldSleep { position: 0 }));
+    /// assert_eq!(host.operate_within(1, set, &take, 500)?, Answer::Asleep { position: 0 });
+    /// assert_eq!(host.clock(499)?.len(), 0);
+    /// assert_eq!(host.clock(500)?.len(), 1);
+    /// # Ok::<(), vairolent::Error>(())
+    /// ```
+    pub fn operate_within(
+        &mut self,
+        process: u8,
+        identifier: i32,
+        operations: &[Operation],
+        wait: u32,
+    ) -> Result<Answer, Error> {
+        let bytes = size_of_val(operations);
+        let operations = operations.as_ptr().cast();
+        lend!(self to vairolent_operate_within_in(process, identifier, wait, operations, bytes))
+            .map(answered)
     }
 
     /// Sets a semaphore to a value, and clears its adjustments for all processes.
@@ -321,6 +363,38 @@ impl Host {
     pub fn exit(&mut self, process: u8) -> Result<Wakings, Error> {
         let (_, wakings) = lend!(self to vairolent_exit_in(process))?;
         Ok(wakings)
+    }
+
+    /// Tells the present time, in milliseconds since any moment that the caller keeps to; a fresh host
+    /// was told 0.
+    ///
+    /// Every sleeper with a wait whose start plus wait, as an exact sum, is at or below it is ended
+    /// with [`Ending::TimedOut`](crate::Ending::TimedOut), oldest first over all sets, without a look.
+    /// No value changes, so that nobody else is judged. Between two times that are told no wait ends:
+    /// who is past its own sleeps on, and can still be woken.
+    ///
+    /// # Errors
+    ///
+    /// - [`Error::BadTime`]: the time is below the last told, or above [`TIME_MAX`](crate::TIME_MAX).
+    ///   It is not told then.
+    ///
+    /// ```
+    /// use vairolent::{Answer, Ending, Error, Host, Operation, Waking, ALL};
+    ///
+    /// let mut host = Host::new();
+    /// let set = host.create(1, ALL, ALL)?;
+    /// assert_eq!(host.clock(70_000)?.len(), 0);
+    /// let take = [Operation::new(0, -1)];
+    /// assert_eq!(host.operate_within(5, set, &take, 250)?, Answer::Asleep { position: 0 });
+    /// assert_eq!(host.clock(69_999), Err(Error::BadTime));
+    /// let mut wakings = host.clock(70_250)?;
+    /// assert_eq!(wakings.next(), Some(Waking { process: 5, ending: Ending::TimedOut }));
+    /// # Ok::<(), vairolent::Error>(())
+    /// ```
+    pub fn clock(&mut self, time: u64) -> Result<Wakings, Error> {
+        // It is refused for its time alone.
+        let told = lend!(self to vairolent_clock_in(time));
+        told.map(|(_, wakings)| wakings).map_err(|_| Error::BadTime)
     }
 
     /// Shows a semaphore: its value, its last process, and who waits there.

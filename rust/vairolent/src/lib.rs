@@ -30,7 +30,8 @@
 //! by its position, from 0: in [`Answer::Asleep`], in [`Error::WouldSleep`] and
 //! [`Error::OutOfRange`], and where a sleeper is judged again in [`Ending::WouldSleep`] and
 //! [`Ending::OutOfRange`]. Nothing else has a position: operations that are done, calls that a check
-//! refuses before they are judged, sleepers that a signal or a removal ends, and the other events.
+//! refuses before they are judged, sleepers that a signal, a removal or the clock ends, and the other
+//! events.
 //!
 //! ```
 //! use vairolent::{Error, Host, Operation, ALL};
@@ -43,6 +44,29 @@
 //!     Err(Error::WouldSleep { position }) => assert_eq!(operations[position].number, 0),
 //!     other => panic!("semaphore 0 is at 0: {other:?}"),
 //! }
+//! # Ok::<(), vairolent::Error>(())
+//! ```
+//!
+//! # Waits that end by the clock
+//!
+//! [`Host::operate_within`] is an operate with a wait, in milliseconds. A host has no clock of its
+//! own: [`Host::clock`] tells it the present time, and ends the sleepers whose wait is over. So a
+//! program tells the time as often as it wants to know who gives up, and before the events of a new
+//! moment.
+//!
+//! ```
+//! use vairolent::{Answer, Ending, Host, Operation, Waking, ALL};
+//!
+//! let mut host = Host::new();
+//! let table = host.create(1, ALL, ALL)?;
+//! // Who has the table is dead, and nobody knows. Predictor 2 waits for three seconds.
+//! let take = [Operation::new(0, -1)];
+//! assert_eq!(host.operate_within(2, table, &take, 3_000)?, Answer::Asleep { position: 0 });
+//! for now in [1_000, 2_000] {
+//!     assert_eq!(host.clock(now)?.len(), 0);
+//! }
+//! let gave_up: Vec<Waking> = host.clock(3_000)?.collect();
+//! assert_eq!(gave_up, [Waking { process: 2, ending: Ending::TimedOut }]);
 //! # Ok::<(), vairolent::Error>(())
 //! ```
 //!
@@ -95,7 +119,7 @@ mod wakings;
 pub use answers::{Answer, Semaphore};
 pub use error::Error;
 pub use host::Host;
-pub use limits::{ALL, OPERATIONS, PROCESSES, SEMAPHORES, SETS, VALUE_MAX};
+pub use limits::{ALL, OPERATIONS, PROCESSES, SEMAPHORES, SETS, TIME_MAX, VALUE_MAX};
 pub use operation::Operation;
 pub use set::Set;
 pub use wakings::{Ending, Waking, Wakings};

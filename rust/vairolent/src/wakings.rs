@@ -42,6 +42,8 @@ coded! {
         Done = DONE,
         /// EAGAIN: it would sleep now at an operation with IPC_NOWAIT. Its operations are not done.
         WouldSleep { position } = EAGAIN,
+        /// EAGAIN: its wait is over. Its operations are not done.
+        TimedOut = EAGAIN_BY_CLOCK,
         /// ERANGE: a value or an adjustment would leave its range. Its operations are not done.
         OutOfRange { position } = ERANGE,
         /// EIDRM: its set was removed.
@@ -61,8 +63,10 @@ coded! {
 /// let waking = Waking { process: 3, ending: Ending::WouldSleep { position: 1 } };
 /// assert_eq!(
 ///     waking.to_string(),
-///     "process 3: EAGAIN (11) at operation 1: an operation with IPC_NOWAIT would sleep"
+///     "process 3: EAGAIN (11) at operation 1: an operation would sleep, and may not"
 /// );
+/// let waking = Waking { process: 4, ending: Ending::TimedOut };
+/// assert_eq!(waking.to_string(), "process 4: EAGAIN (11): its wait is over");
 /// ```
 #[derive(Clone, Copy, Debug, PartialEq, Eq, Hash)]
 pub struct Waking {

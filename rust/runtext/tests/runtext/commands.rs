@@ -29,6 +29,22 @@ fn all_values_to_bytes_and_back() {
 }
 
 #[test]
+fn waits_and_times_to_bytes_and_back() {
+    let text = "operate 1 set=-2 wait=67305985 0:-1\noperate 2 set=0 wait=0\n\
+        time 578437695752307201\ntime 18446744073709551615\n";
+    let bodies = [
+        &[8, 1, 254, 255, 255, 255, 1, 2, 3, 4, 1, 0, 0, 255, 255, 0, 0][..],
+        &[8, 2, 0, 0, 0, 0, 0, 0, 0, 0, 0],
+        &[9, 1, 2, 3, 4, 5, 6, 7, 8],
+        &[9, 255, 255, 255, 255, 255, 255, 255, 255],
+    ];
+    let table = [4, 0, 18, 0, 17, 0, 35, 0, 11, 0, 46, 0, 9, 0, 55, 0, 9, 0];
+    let file = [&table[..], &bodies.concat()].concat();
+    assert_eq!(good(&["assemble"], text.as_bytes()), file);
+    assert_eq!(good(&["disassemble"], &file), text.as_bytes());
+}
+
+#[test]
 fn no_events() {
     assert_eq!(good(&["assemble"], b""), [0, 0]);
     assert_eq!(good(&["disassemble"], &[0, 0]), b"");
@@ -38,9 +54,9 @@ fn no_events() {
 fn the_canonical_text() {
     let text =
         b"  create 3   alter=8,1 #\n\noperate 4 set=0 07:5/nowait,0xF,undo\nquery 0 number=1\n\
-        set-all 00  values=01,-0,+5#";
+        set-all 00  values=01,-0,+5#\noperate 5 set=0  wait=0250 0:-01\ntime 007";
     let wanted = "create 3 read=all alter=1,8\noperate 4 set=0 7:+5/undo,nowait,0x000f\n\
-        query 0 number=1\nset-all 0 values=1,0,5\n";
+        query 0 number=1\nset-all 0 values=1,0,5\noperate 5 set=0 wait=250 0:-1\ntime 7\n";
     let file = good(&["assemble"], &text[..]);
     assert_eq!(good(&["disassemble"], &file), wanted.as_bytes());
     assert_eq!(good(&["assemble"], wanted.as_bytes()), file);
@@ -56,6 +72,10 @@ fn a_mistake_in_a_text_is_2() {
         (
             "exit 1\n\nset-all 0 values=1,,5",
             "3:20: expected values -2147483648 to 2147483647 as in 1,0,5, or none, found nothing\n",
+        ),
+        (
+            "time 5\noperate 1 set=0 wait=4294967296 0:-1",
+            "2:22: expected a wait in milliseconds, 0 to 4294967295, found '4294967296'\n",
         ),
     ] {
         for command in ["assemble", "story"] {

@@ -5,8 +5,8 @@ use std::fs;
 use crate::{bad, built, good, repository, run, runtext};
 
 /// Kinds of good files, all of which `compare --help` lists.
-const KINDS: [&str; 8] =
-    ["medley", "mixed", "extremes", "refusals", "queries", "random", "long", "whole"];
+const KINDS: [&str; 9] =
+    ["medley", "mixed", "extremes", "refusals", "queries", "random", "long", "whole", "timed"];
 /// Files of a seed, good and bad.
 const FILES: usize = 60;
 

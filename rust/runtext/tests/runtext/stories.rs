@@ -144,6 +144,41 @@ event 6: read all of set 1
     assert!(story.ends_with(wanted), "{story}");
 }
 
+/// Sleepers that give up, a time that goes back, and a call that may not wait.
+#[test]
+fn waits_that_end_by_the_clock() {
+    let text = "create 1\noperate 1 set=0 wait=250 0:-1\noperate 2 set=0 wait=300 0:-1\n\
+        time 300\ntime 299\noperate 3 set=0 wait=0 0:-1\n";
+    let wanted = "
+event 2: process 2 on set 0, waiting 300 ms at most: take 1 from semaphore 0
+  line    2 -1@0 0 0
+  answer  asleep (-1) at operation 0: semaphore 0 has value 0, the call wants 1
+  until   300 ms
+  values  set 0: 0
+  waits   set 0, semaphore 0: 2 for increase, 0 for zero
+
+event 3: the time is 300 ms
+  line    3 0 0 0 1=11 2=11
+  answer  done (0)
+  wakes   process 1: EAGAIN (11): gave up waiting after 250 ms, over at 250 ms and told at 300 ms
+  wakes   process 2: EAGAIN (11): gave up waiting after 300 ms
+  values  set 0: 0
+
+event 4: the time is 299 ms
+  line    4 22 0 0
+  answer  refused: EINVAL (22): it is before 300 ms, the time told last
+  values  set 0: 0
+
+event 5: process 3 on set 0, waiting 0 ms at most: take 1 from semaphore 0
+  line    5 11@0 0 0
+  answer  refused: EAGAIN (11) at operation 0: semaphore 0 has value 0, the call wants 1; it would
+          have to sleep, but may not wait
+  values  set 0: 0
+";
+    let story = story(&[], text.as_bytes());
+    assert!(story.ends_with(wanted), "{story}");
+}
+
 /// A full file takes many runs. Its lines are those of one replay, every query of the file answers
 /// with the value that the story shows, and each operation that decided is told with its value.
 #[test]
@@ -168,6 +203,18 @@ fn a_full_file_of_settings_and_readings() {
     assert!(readings.len() > 200 && readings.iter().all(|&agrees| agrees));
     let decided = told_with_reasons(&story);
     assert!(decided > 200, "{decided} operations that decided");
+}
+
+/// Each sleeper that a time ended is told with how long it waited.
+#[test]
+fn a_full_file_of_waits() {
+    let story = story(&["--run"], &generated(&["--kind", "timed", "--seed", "3"]));
+    let lines = story.lines().filter(|row| row.starts_with("  line "));
+    let ended = lines.flat_map(str::split_whitespace).filter(|word| word.ends_with("=11")).count();
+    let told = story.matches("(11): gave up waiting after ").count();
+    assert!(ended > 100 && told == ended, "{told} of {ended} gave up");
+    let decided = told_with_reasons(&story);
+    assert!(decided > 100, "{decided} operations that decided");
 }
 
 #[test]

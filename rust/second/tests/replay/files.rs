@@ -1,6 +1,8 @@
 //! Good and bad run files, byte by byte.
 
-use second::event::{exit, operate, query, read_all, remove, set_all, set_value, signal};
+use second::event::{
+    clock, exit, operate, query, read_all, remove, set_all, set_value, signal, timed_operate,
+};
 use second::{run_file, Rule};
 
 use crate::{create, text};
@@ -57,7 +59,7 @@ fn offsets_and_end() {
 #[test]
 fn bodies() {
     assert_eq!(line(&run_file(&[vec![]])), "bad 204\n");
-    for kind in [0, 8, 9].into_iter().chain(12..=255) {
+    for kind in [0].into_iter().chain(12..=255) {
         assert_eq!(line(&run_file(&[vec![kind, 1]])), "bad 203\n", "kind {kind}");
     }
     let good = [
@@ -68,6 +70,8 @@ fn bodies() {
         signal(1),
         exit(1),
         query(0, 0),
+        timed_operate(1, 0, 1, &[(0, 1, 0)]),
+        clock(1),
         set_all(0, &[0, 0]),
         read_all(0),
     ];
@@ -75,6 +79,50 @@ fn bodies() {
         assert_eq!(line(&run_file(&[body[..body.len() - 1].to_vec()])), "bad 204\n");
         assert_eq!(line(&run_file(&[[&body[..], &[0]].concat()])), "bad 204\n");
     }
+}
+
+/// Cut off before or behind its number, or with operations that are not as many as it says.
+#[test]
+fn lengths_of_an_operate_with_a_wait() {
+    let good = timed_operate(1, 0, 1, &[(0, 1, 0), (0, 1, 0)]);
+    for length in (1..23).chain(24..36) {
+        let mut body = good.clone();
+        body.resize(length, 0);
+        assert_eq!(line(&run_file(&[body])), "bad 204\n", "{length} bytes");
+    }
+    for number in [0, 1, 3, 130, 255] {
+        let mut body = good.clone();
+        body[10] = number;
+        assert_eq!(line(&run_file(&[body])), "bad 204\n", "{number} operations");
+    }
+    // With the layout of an operate without a wait it is as bad.
+    let mut body = operate(1, 0, &[(0, 1, 0), (0, 1, 0)]);
+    body[0] = 8;
+    assert_eq!(line(&run_file(&[body])), "bad 204\n");
+}
+
+/// Wait and time are little-endian and have no sign.
+#[test]
+fn bytes_of_an_operate_with_a_wait_and_a_time() {
+    let bodies = [
+        vec![1, 1, 0xFF, 0xFF],
+        vec![8, 1, 0, 0, 0, 0, 0x02, 0x01, 0, 0, 1, 0, 0, 0xFF, 0xFF, 0, 0],
+        vec![8, 2, 0, 0, 0, 0, 0, 0, 0, 0x80, 1, 0, 0, 0xFF, 0xFF, 0, 0],
+        vec![8, 3, 0, 0, 0, 0, 0, 0, 0, 0, 1, 0, 0, 0xFF, 0xFF, 0, 0],
+        vec![9, 0x01, 0x01, 0, 0, 0, 0, 0, 0],
+        vec![9, 0x02, 0x01, 0, 0, 0, 0, 0, 0],
+        vec![9, 0, 0, 0, 0, 0, 0, 0, 0x80],
+        vec![9, 0xFF, 0xFF, 0xFF, 0x7F, 0, 0, 0, 0],
+        vec![9, 0, 0, 0, 0x80, 0, 0, 0, 0],
+        vec![9, 0xFF, 0xFF, 0xFF, 0xFF, 0xFF, 0xFF, 0xFF, 0x7F],
+    ];
+    let lines = "0 0 0 0\n1 -1@0 0 0\n2 -1@0 0 0\n3 11@0 0 0\n4 0 0 0\n5 0 0 0 1=11\n\
+        6 22 0 0\n7 0 0 0\n8 0 0 0 2=11\n9 0 0 0\n";
+    assert_eq!(line(&run_file(&bodies)), format!("events 10\n{lines}"));
+    assert_eq!(bodies[1], timed_operate(1, 0, 258, &[(0, -1, 0)]));
+    assert_eq!(bodies[2], timed_operate(2, 0, 1 << 31, &[(0, -1, 0)]));
+    assert_eq!(bodies[5], clock(258));
+    assert_eq!(bodies[6], clock(1 << 63));
 }
 
 /// With its kind and identifier alone, or with values that are not as many as it says.
@@ -115,9 +163,9 @@ fn bytes_of_a_setting_and_a_reading() {
 /// The first bad event decides, and offsets come before all bodies.
 #[test]
 fn order_of_the_checks() {
-    assert_eq!(line(&run_file(&[exit(1), vec![], vec![8]])), "bad 204\n");
-    assert_eq!(line(&run_file(&[exit(1), vec![8], vec![]])), "bad 203\n");
-    let mut file = run_file(&[vec![8], vec![]]);
+    assert_eq!(line(&run_file(&[exit(1), vec![], vec![12]])), "bad 204\n");
+    assert_eq!(line(&run_file(&[exit(1), vec![12], vec![]])), "bad 203\n");
+    let mut file = run_file(&[vec![12], vec![]]);
     file.push(0);
     assert_eq!(line(&file), "bad 202\n");
 }
@@ -126,8 +174,10 @@ fn order_of_the_checks() {
 fn any_number_of_operations_with_the_matching_length_is_a_good_file() {
     for number in 0..=255 {
         let code = if number <= 32 { 22 } else { 7 };
-        let file = run_file(&[operate(1, 0, &vec![(0, 0, 0); number])]);
-        assert_eq!(line(&file), format!("events 1\n0 {code} 0 0\n"));
+        let array = vec![(0, 0, 0); number];
+        for body in [operate(1, 0, &array), timed_operate(1, 0, 1, &array)] {
+            assert_eq!(line(&run_file(&[body])), format!("events 1\n0 {code} 0 0\n"));
+        }
     }
 }
 

@@ -1,5 +1,6 @@
 //! Runs with every expected line written down by hand.
 
+mod clock;
 mod files;
 mod positions;
 mod program;

@@ -55,15 +55,24 @@ pub enum Told {
     Read(Set),
 }
 
+impl From<Answer> for Told {
+    fn from(answer: Answer) -> Told {
+        match answer {
+            Answer::Done(wakings) => Told::Done(wakings),
+            Answer::Asleep { position } => Told::Asleep(position),
+        }
+    }
+}
+
 /// Does an event.
 pub fn run(host: &mut Host, handed: &Handed) -> Told {
     let told = match handed.event {
         Event::Create { count, read, alter } => host.create(count, read, alter).map(Told::Made),
-        Event::Operate { process, identifier, .. } => {
-            host.operate(process, identifier, &handed.operations).map(|answer| match answer {
-                Answer::Done(wakings) => Told::Done(wakings),
-                Answer::Asleep { position } => Told::Asleep(position),
-            })
+        Event::Operate { process, identifier, wait: None, .. } => {
+            host.operate(process, identifier, &handed.operations).map(Told::from)
+        }
+        Event::Operate { process, identifier, wait: Some(wait), .. } => {
+            host.operate_within(process, identifier, &handed.operations, wait).map(Told::from)
         }
         Event::SetValue { identifier, number, value } => {
             host.set_value(identifier, number, value).map(Told::Done)
@@ -72,6 +81,7 @@ pub fn run(host: &mut Host, handed: &Handed) -> Told {
         Event::Signal { process } => host.signal(process).map(Told::Done),
         Event::Exit { process } => host.exit(process).map(Told::Done),
         Event::Query { identifier, number } => host.query(identifier, number).map(Told::Seen),
+        Event::Clock { time } => host.clock(time).map(Told::Done),
         Event::SetAll { identifier, .. } => {
             host.set_all(identifier, &handed.values).map(Told::Done)
         }

@@ -111,3 +111,18 @@ fn none_of_the_removed_and_the_interrupted() {
     assert_eq!(host.signal(5).map(positions), Ok(vec![(5, None)]));
     assert_eq!(host.remove(set).map(positions), Ok(vec![(6, None)]));
 }
+
+/// With a wait it is named as without; of a wait that is over none is.
+#[test]
+fn with_a_wait() {
+    let (mut host, set) = with_set(2);
+    for position in 0..OPERATIONS {
+        let mut operations = [OTHER_ZERO; OPERATIONS];
+        operations[position] = TAKE;
+        let error = Err(Error::WouldSleep { position });
+        assert_eq!(host.operate_within(1, set, &operations, 0), error);
+        let time = position as u64;
+        assert_eq!(host.operate_within(1, set, &operations, 1), Ok(Answer::Asleep { position }));
+        assert_eq!(host.clock(time + 1).map(positions), Ok(vec![(1, None)]));
+    }
+}

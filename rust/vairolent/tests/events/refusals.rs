@@ -2,7 +2,7 @@
 
 use std::fmt::Debug;
 
-use vairolent::{Answer, Error, Host, Operation, ALL, OPERATIONS, SEMAPHORES, VALUE_MAX};
+use vairolent::{Answer, Error, Host, Operation, ALL, OPERATIONS, SEMAPHORES, TIME_MAX, VALUE_MAX};
 
 use crate::{sleep, with_set};
 
@@ -29,6 +29,14 @@ where
     assert_eq!(*host, before, "{wanted}");
 }
 
+/// An operate, with a wait or none.
+fn operate_refused(host: &mut Host, wanted: Error, process: u8, set: i32, array: &[Operation]) {
+    refused(host, wanted, |host| host.operate(process, set, array));
+    for wait in [0, 1, u32::MAX] {
+        refused(host, wanted, |host| host.operate_within(process, set, array, wait));
+    }
+}
+
 #[test]
 fn create() {
     let mut host = Host::new();
@@ -49,22 +57,22 @@ fn operate_by_its_checks() {
     sleep(&mut host, set, &[2], &[TAKE]);
     let far = Operation::new(2, 1);
     for process in [0, 9, u8::MAX] {
-        refused(&mut host, Error::NoProcess, |host| host.operate(process, 9, &[]));
+        operate_refused(&mut host, Error::NoProcess, process, 9, &[]);
     }
-    refused(&mut host, Error::ProcessAsleep, |host| host.operate(2, 9, &[]));
-    refused(&mut host, Error::Invalid, |host| host.operate(1, 9, &[]));
+    operate_refused(&mut host, Error::ProcessAsleep, 2, 9, &[]);
+    operate_refused(&mut host, Error::Invalid, 1, 9, &[]);
     for length in TOO_MANY {
         let many = vec![far; length];
-        refused(&mut host, Error::TooManyOperations, |host| host.operate(1, 9, &many));
+        operate_refused(&mut host, Error::TooManyOperations, 1, 9, &many);
     }
     for none in NO_SETS {
-        refused(&mut host, Error::Invalid, |host| host.operate(1, none, &[far]));
+        operate_refused(&mut host, Error::Invalid, 1, none, &[far]);
     }
     for number in [2, 8, u16::MAX] {
         let operations = [ADD, Operation::new(number, 0)];
-        refused(&mut host, Error::NoSemaphore, |host| host.operate(1, set, &operations));
+        operate_refused(&mut host, Error::NoSemaphore, 1, set, &operations);
     }
-    refused(&mut host, Error::NotPermitted, |host| host.operate(1, set, &[TAKE.nowait()]));
+    operate_refused(&mut host, Error::NotPermitted, 1, set, &[TAKE.nowait()]);
 }
 
 /// Up to the limit every operation is judged, above it none.
@@ -78,7 +86,7 @@ fn operate_by_its_length() {
     let sum = OPERATIONS * (OPERATIONS + 1) / 2;
     assert_eq!(host.query(set, 0).map(|semaphore| semaphore.value.into()), Ok(sum));
     for length in TOO_MANY {
-        refused(&mut host, Error::TooManyOperations, |host| host.operate(1, set, &many[..length]));
+        operate_refused(&mut host, Error::TooManyOperations, 1, set, &many[..length]);
     }
 }
 
@@ -86,10 +94,10 @@ fn operate_by_its_length() {
 fn operate_by_the_masks() {
     let mut host = Host::new();
     let set = host.create(1, 0b011, 0b110).expect("a slot is free");
-    refused(&mut host, Error::NotPermitted, |host| host.operate(1, set, &[ADD]));
-    refused(&mut host, Error::NotPermitted, |host| host.operate(1, set, &[ZERO, ADD]));
-    refused(&mut host, Error::NotPermitted, |host| host.operate(3, set, &[ZERO]));
-    refused(&mut host, Error::NotPermitted, |host| host.operate(3, set, &[ZERO, ADD]));
+    operate_refused(&mut host, Error::NotPermitted, 1, set, &[ADD]);
+    operate_refused(&mut host, Error::NotPermitted, 1, set, &[ZERO, ADD]);
+    operate_refused(&mut host, Error::NotPermitted, 3, set, &[ZERO]);
+    operate_refused(&mut host, Error::NotPermitted, 3, set, &[ZERO, ADD]);
     for (process, operations) in [(1, &[ZERO][..]), (3, &[ADD, TAKE]), (2, &[ZERO, ADD])] {
         assert!(matches!(host.operate(process, set, operations), Ok(Answer::Done(_))));
     }
@@ -101,14 +109,14 @@ fn operate_by_its_judging() {
     let other = Operation::new(1, 5);
     let would_sleep = [other, TAKE.nowait()];
     let wanted = Error::WouldSleep { position: 1 };
-    refused(&mut host, wanted, |host| host.operate(1, set, &would_sleep));
+    operate_refused(&mut host, wanted, 1, set, &would_sleep);
     let value_over = [other, Operation::new(0, i16::MAX), ADD];
     let wanted = Error::OutOfRange { position: 2 };
-    refused(&mut host, wanted, |host| host.operate(1, set, &value_over));
+    operate_refused(&mut host, wanted, 1, set, &value_over);
     let up = Operation::new(0, i16::MAX).undo();
     let adjustment_under = [up, Operation::new(0, -i16::MAX), other, ADD.undo(), TAKE];
     let wanted = Error::OutOfRange { position: 3 };
-    refused(&mut host, wanted, |host| host.operate(1, set, &adjustment_under));
+    operate_refused(&mut host, wanted, 1, set, &adjustment_under);
 }
 
 #[test]
@@ -187,5 +195,32 @@ fn signal_and_exit() {
     for process in [0, 9, u8::MAX] {
         refused(&mut host, Error::NoProcess, |host| host.signal(process));
         refused(&mut host, Error::NoProcess, |host| host.exit(process));
+    }
+}
+
+/// A wait of 0 would be the last thing asked for, and here is the only one.
+#[test]
+fn operate_within_no_time() {
+    let (mut host, set) = busy(2);
+    let stops = [ADD, Operation::new(1, 0), Operation::new(1, -1)];
+    for (position, array) in [(0, &[TAKE][..]), (2, &stops), (1, &stops[1..])] {
+        let wanted = Error::WouldSleep { position };
+        refused(&mut host, wanted, |host| host.operate_within(1, set, array, 0));
+    }
+}
+
+/// Times below the last told, and above the greatest.
+#[test]
+fn clock() {
+    let (mut host, set) = busy(1);
+    let answer = host.operate_within(3, set, &[TAKE], 1_000);
+    assert_eq!(answer, Ok(Answer::Asleep { position: 0 }));
+    assert!(host.clock(100).is_ok());
+    for time in [0, 99, TIME_MAX + 1, TIME_MAX + 101, u64::MAX] {
+        refused(&mut host, Error::BadTime, |host| host.clock(time));
+    }
+    assert!(host.clock(TIME_MAX).is_ok());
+    for time in [0, TIME_MAX - 1, TIME_MAX + 1, u64::MAX] {
+        refused(&mut host, Error::BadTime, |host| host.clock(time));
     }
 }

@@ -22,9 +22,10 @@ fn errors() {
         (Error::NotPermitted, "EACCES (13): not permitted"),
         (Error::NoSlot, "ENOSPC (28): no slot is free"),
         (Error::BadValue, "ERANGE (34): a value to set is not 0 to 32,767"),
+        (Error::BadTime, "EINVAL (22): a time is below the last, or above 2^63-1"),
         (
             Error::WouldSleep { position: 0 },
-            "EAGAIN (11) at operation 0: an operation with IPC_NOWAIT would sleep",
+            "EAGAIN (11) at operation 0: an operation would sleep, and may not",
         ),
         (
             Error::OutOfRange { position: 7 },
@@ -46,12 +47,13 @@ fn endings() {
         (Ending::Done, "done (0)"),
         (
             Ending::WouldSleep { position: 7 },
-            "EAGAIN (11) at operation 7: an operation with IPC_NOWAIT would sleep",
+            "EAGAIN (11) at operation 7: an operation would sleep, and may not",
         ),
         (
             Ending::OutOfRange { position: 0 },
             "ERANGE (34) at operation 0: a value or an adjustment would leave its range",
         ),
+        (Ending::TimedOut, "EAGAIN (11): its wait is over"),
         (Ending::Removed, "EIDRM (43): its set was removed"),
         (Ending::Interrupted, "EINTR (4): a signal interrupted it"),
     ];
@@ -88,8 +90,8 @@ fn a_waking_with_a_position() {
     sleep(&mut host, set, &[4], &operations[..1]);
     assert_eq!(host.set_value(set, 1, 5).map(|wakings| wakings.to_string()), Ok("1 look".into()));
     let wakings = host.set_value(set, 0, 1).expect("set");
-    let wanted = "2 looks; process 3: EAGAIN (11) at operation 1: an operation with IPC_NOWAIT \
-                  would sleep; process 4: done (0)";
+    let wanted = "2 looks; process 3: EAGAIN (11) at operation 1: an operation would sleep, and \
+                  may not; process 4: done (0)";
     assert_eq!(wakings.to_string(), wanted);
     let wanted = "Wakings { looks: 2, rest: [Waking { process: 3, ending: WouldSleep { position: \
                   1 } }, Waking { process: 4, ending: Done }] }";

@@ -1,9 +1,11 @@
 //! Events with arbitrary arguments: each is answered, refusals change nothing, only sleepers wake,
-//! and what has a position is as that operation decides it.
+//! what has a position is as that operation decides it, and the clock ends those who are due.
 
-use std::collections::{BTreeMap, BTreeSet};
+use std::collections::HashSet;
 
-use vairolent::{Answer, Ending, Error, Host, Operation, Waking, Wakings, ALL, OPERATIONS};
+use vairolent::{
+    Answer, Ending, Error, Host, Operation, Waking, Wakings, ALL, OPERATIONS, TIME_MAX,
+};
 
 const EVENTS: usize = 200_000;
 
@@ -35,6 +37,17 @@ impl Random {
         [0, 1, 2, 32_767, self.bits() as i32][self.below(5) as usize]
     }
 
+    fn wait(&mut self) -> Option<u32> {
+        [None, None, Some(0), Some(self.below(60) as u32), Some(u32::MAX)][self.below(5) as usize]
+    }
+
+    /// Mostly a little later than the last.
+    fn time(&mut self, last: u64) -> u64 {
+        let before = last.wrapping_sub(1 + self.below(9));
+        let times = [before, last, TIME_MAX + 1 + last, last + self.below(30)];
+        times[self.below(8).min(3) as usize]
+    }
+
     fn operation(&mut self) -> Operation {
         let amount = (self.near(7) as i16).wrapping_sub(3);
         let flags = [0, 0, 0, Operation::UNDO, Operation::NOWAIT, self.bits() as u16];
@@ -46,17 +59,32 @@ impl Random {
     }
 }
 
-/// An operate, as it is handed in.
+/// An operate, as it is handed in at a time.
 struct Call {
     process: u8,
     identifier: i32,
     operations: Vec<Operation>,
+    start: u64,
+    wait: Option<u32>,
 }
 
 impl Call {
     /// What becomes of its first so many operations.
     fn first(&self, count: usize, host: &Host) -> Result<Answer, Error> {
-        host.clone().operate(self.process, self.identifier, &self.operations[..count])
+        self.hand_in(count, &mut host.clone())
+    }
+
+    fn hand_in(&self, count: usize, host: &mut Host) -> Result<Answer, Error> {
+        let operations = &self.operations[..count];
+        match self.wait {
+            None => host.operate(self.process, self.identifier, operations),
+            Some(wait) => host.operate_within(self.process, self.identifier, operations, wait),
+        }
+    }
+
+    /// Is its wait over by this time?
+    fn is_due(&self, time: u64) -> bool {
+        self.wait.map_or(false, |wait| self.start + u64::from(wait) <= time)
     }
 
     /// If there is a position: the operations before it go through by themselves, and with it they
@@ -72,16 +100,29 @@ impl Call {
             assert_eq!(self.first(position + 1, host), *answer);
         }
     }
+
+    /// A wait of 0 refuses what would sleep; no wait makes any other difference.
+    fn check_wait(&self, host: &Host, answer: &Result<Answer, Error>) {
+        match host.clone().operate(self.process, self.identifier, &self.operations) {
+            Ok(Answer::Asleep { position }) if self.wait == Some(0) => {
+                assert_eq!(*answer, Err(Error::WouldSleep { position }));
+            }
+            without => assert_eq!(*answer, without),
+        }
+    }
 }
 
-/// A host, and what is known of it. Errors and endings are codes and positions.
+/// A host, and what is known of it.
 struct Traffic {
     random: Random,
     host: Host,
     sets: Vec<i32>,
-    asleep: BTreeMap<u8, Call>,
-    errors: BTreeSet<(i32, Option<usize>)>,
-    endings: BTreeSet<(i32, Option<usize>)>,
+    /// Oldest first.
+    asleep: Vec<Call>,
+    /// The last told.
+    time: u64,
+    errors: HashSet<Error>,
+    endings: HashSet<Ending>,
 }
 
 impl Traffic {
@@ -90,9 +131,10 @@ impl Traffic {
             random: Random(0x5EED),
             host: Host::new(),
             sets: Vec::new(),
-            asleep: BTreeMap::new(),
-            errors: BTreeSet::new(),
-            endings: BTreeSet::new(),
+            asleep: Vec::new(),
+            time: 0,
+            errors: HashSet::new(),
+            endings: HashSet::new(),
         }
     }
 
@@ -105,9 +147,19 @@ impl Traffic {
         self.sets.get(at).copied().unwrap_or(self.random.near(16) as i32)
     }
 
+    fn is_asleep(&self, process: u8) -> bool {
+        self.asleep.iter().any(|call| call.process == process)
+    }
+
+    /// Takes out the call of a process that is asleep.
+    fn take(&mut self, process: u8) -> Option<Call> {
+        let at = self.asleep.iter().position(|call| call.process == process)?;
+        Some(self.asleep.remove(at))
+    }
+
     fn event(&mut self) {
         let before = self.host.clone();
-        let refused = match self.random.below(40) {
+        let refused = match self.random.below(44) {
             0..=1 => self.create(),
             2..=29 => self.operate(),
             30..=31 => self.set_value(),
@@ -115,11 +167,12 @@ impl Traffic {
             34 => self.remove(),
             35..=36 => self.signal(),
             37..=38 => self.exit(),
+            39..=42 => self.clock(),
             _ => self.query(),
         };
         if let Err(error) = refused {
             assert_eq!(self.host, before, "{error}");
-            self.errors.insert((error.code(), error.position()));
+            self.errors.insert(error);
         }
     }
 
@@ -135,13 +188,15 @@ impl Traffic {
         let above = OPERATIONS as u64 + 4;
         let length = if self.random.below(20) == 0 { self.random.below(above) } else { 2 };
         let operations: Vec<Operation> = (0..length).map(|_| self.random.operation()).collect();
-        let call = Call { process, identifier, operations };
+        let (start, wait) = (self.time, self.random.wait());
+        let call = Call { process, identifier, operations, start, wait };
         let before = self.host.clone();
-        let answer = self.host.operate(process, identifier, &call.operations);
-        assert_eq!(answer == Err(Error::ProcessAsleep), self.asleep.contains_key(&process));
+        let answer = call.hand_in(call.operations.len(), &mut self.host);
+        assert_eq!(answer == Err(Error::ProcessAsleep), self.is_asleep(process));
         call.check(&before, &answer);
+        call.check_wait(&before, &answer);
         match answer? {
-            Answer::Asleep { .. } => assert!(self.asleep.insert(process, call).is_none()),
+            Answer::Asleep { .. } => self.asleep.push(call),
             Answer::Done(wakings) => self.wake(wakings),
         }
         Ok(())
@@ -178,7 +233,7 @@ impl Traffic {
     fn signal(&mut self) -> Result<(), Error> {
         let process = self.process();
         let wakings = self.host.signal(process)?;
-        assert_eq!(wakings.len(), usize::from(self.asleep.contains_key(&process)));
+        assert_eq!(wakings.len(), usize::from(self.is_asleep(process)));
         self.wake(wakings);
         Ok(())
     }
@@ -186,7 +241,20 @@ impl Traffic {
     fn exit(&mut self) -> Result<(), Error> {
         let process = self.process();
         let wakings = self.host.exit(process)?;
-        self.asleep.remove(&process);
+        self.take(process);
+        self.wake(wakings);
+        Ok(())
+    }
+
+    /// It ends all who are due, oldest first, and nobody else.
+    fn clock(&mut self) -> Result<(), Error> {
+        let time = self.random.time(self.time);
+        let wakings = self.host.clock(time)?;
+        self.time = time;
+        let due = self.asleep.iter().filter(|call| call.is_due(time)).map(|call| call.process);
+        assert!(wakings.clone().map(|waking| waking.process).eq(due));
+        assert!(wakings.clone().all(|waking| waking.ending == Ending::TimedOut));
+        assert_eq!(wakings.looks(), 0);
         self.wake(wakings);
         Ok(())
     }
@@ -209,12 +277,12 @@ impl Traffic {
         let woken: Vec<Waking> = wakings.collect();
         let last_done = woken.iter().rposition(|waking| waking.ending == Ending::Done);
         for (at, waking) in woken.iter().enumerate() {
-            let call = self.asleep.remove(&waking.process).expect("only sleepers wake");
-            let ending = (waking.ending.code(), waking.ending.position());
-            if ending.1.is_some() && last_done <= Some(at) {
+            let call = self.take(waking.process).expect("only sleepers wake");
+            let ending = waking.ending;
+            if ending.position().is_some() && last_done <= Some(at) {
                 let again = call.first(call.operations.len(), &self.host);
                 let error = again.expect_err("refused once more");
-                assert_eq!((error.code(), error.position()), ending);
+                assert_eq!((error.code(), error.position()), (ending.code(), ending.position()));
             }
             self.endings.insert(ending);
         }
@@ -228,9 +296,8 @@ fn every_error_and_every_ending_comes() {
     for _ in 0..EVENTS {
         traffic.event();
     }
-    let early = |&(_, position): &(i32, Option<usize>)| position <= Some(1);
-    traffic.errors.retain(early);
-    traffic.endings.retain(early);
+    traffic.errors.retain(|error| error.position() <= Some(1));
+    traffic.endings.retain(|ending| ending.position() <= Some(1));
     let errors = [
         Error::NoProcess,
         Error::ProcessAsleep,
@@ -240,20 +307,22 @@ fn every_error_and_every_ending_comes() {
         Error::NotPermitted,
         Error::NoSlot,
         Error::BadValue,
+        Error::BadTime,
         Error::WouldSleep { position: 0 },
         Error::WouldSleep { position: 1 },
         Error::OutOfRange { position: 0 },
         Error::OutOfRange { position: 1 },
     ];
-    assert_eq!(traffic.errors, errors.map(|error| (error.code(), error.position())).into());
+    assert_eq!(traffic.errors, errors.into());
     let endings = [
         Ending::Done,
         Ending::WouldSleep { position: 0 },
         Ending::WouldSleep { position: 1 },
         Ending::OutOfRange { position: 0 },
         Ending::OutOfRange { position: 1 },
+        Ending::TimedOut,
         Ending::Removed,
         Ending::Interrupted,
     ];
-    assert_eq!(traffic.endings, endings.map(|ending| (ending.code(), ending.position())).into());
+    assert_eq!(traffic.endings, endings.into());
 }

@@ -1,13 +1,9 @@
 -- `runfile::bodies::handed_at` meets its contract. Past the end the kind reads as 0, which has none.
-use mathlib.Core.Path.{_≡_, ap, ap₂, _∙_}
-use mathlib.Core.List.{List}
-use Prim.Native.Nat.{ℕ, _*_}
-use lib.ListN.{take, drop-of-length-le}
+use lib.ListN.{drop-of-length-le}
 use borrow.Author.Needs.{needs}
-use Rattle.model.specs.Limits.{operationBytes, valueBytes}
-use Rattle.runfile.specs.Body.{eachOf, handedIn}
+use Rattle.runfile.specs.Body.{fixedOf, eachOf, handedIn}
 use Rattle.runfile.proofs.Bytes.{rest, to-end}
-use Rattle.runfile.proofs.Sizes.{setting-hands, operate-hands, other-hands}
+use Rattle.runfile.proofs.Sizes.{hands, other-hands}
 use Rattle.runfile.proofs.bodies.handed_at.Statement.{statement}
 use Rattle.runfile.proofs.bodies.handed_at.Tie as tie
 
@@ -27,71 +23,47 @@ part-body-start c = search needs
 part-body-end : tie.Need-part-body-end
 part-body-end c = search needs
 
-shared-slice-read-if2 : tie.Need-shared-slice-read-if2
-shared-slice-read-if2 c = search needs
+shared-slice-read-kind : tie.Need-shared-slice-read-kind
+shared-slice-read-kind c = search needs
 
-cast-behind : tie.Need-cast-behind
-cast-behind c = search needs
+items-requires : tie.Need-items-requires
+items-requires c κs = search needs
 
-behind-requires : tie.Need-behind-requires
-behind-requires c κs = search needs
+returns-2 : tie.Need-returns-2
+unfolding fixedOf eachOf
+returns-2 c =
+    let t = c .before in
+    let a = t .before .before .before .before .before .args in
+    rw (← to-end (a .file .now) (a .at), ← hands (rest (a .file .now) (a .at)) (t .if2 .taken), c .items .ensures)
 
-byte-at-requires : tie.Need-byte-at-requires
-byte-at-requires c κs = search needs
+items-requires-2 : tie.Need-items-requires-2
+items-requires-2 c κs = search needs
 
-cast-first : tie.Need-cast-first
-cast-first c = search needs
+returns-3 : tie.Need-returns-3
+unfolding fixedOf eachOf
+returns-3 c =
+    let t = c .before in
+    let a = t .before .before .before .before .before .before .args in
+    rw (← to-end (a .file .now) (a .at), ← hands (rest (a .file .now) (a .at)) (t .if3 .taken), c .items2 .ensures)
 
-mul-first : tie.Need-mul-first
-mul-first c = search needs
+items-requires-3 : tie.Need-items-requires-3
+items-requires-3 c κs = search needs
 
 first-requires-2 : tie.Need-first-requires-2
 first-requires-2 c κs = search needs
 
-returns-2 : tie.Need-returns-2
-returns-2 c =
-    let t = c .before .before .before in
-    let a = t .before .before .before .before .before .args in
-    let b = rest (a .file .now) (a .at) in
-    c .first2 .ensures ∙ ap₂ (λ (n : ℕ) (l : List ℕ). take (valueBytes * n) l) (c .before .byte-at .ensures) (c .before .before .behind .ensures) ∙ setting-hands b (t .if2 .taken) ∙ ap handedIn (to-end (a .file .now) (a .at))
-
-shared-slice-read-if3 : tie.Need-shared-slice-read-if3
-shared-slice-read-if3 c = search needs
-
-cast-behind-2 : tie.Need-cast-behind-2
-cast-behind-2 c = search needs
-
-behind-requires-2 : tie.Need-behind-requires-2
-behind-requires-2 c κs = search needs
-
-byte-at-requires-2 : tie.Need-byte-at-requires-2
-byte-at-requires-2 c κs = search needs
-
-cast-first-2 : tie.Need-cast-first-2
-cast-first-2 c = search needs
-
-mul-first-2 : tie.Need-mul-first-2
-mul-first-2 c = search needs
-
-first-requires-3 : tie.Need-first-requires-3
-first-requires-3 c κs = search needs
-
-first-requires-4 : tie.Need-first-requires-4
-first-requires-4 c κs = search needs
-
-returns-3 : tie.Need-returns-3
-returns-3 c =
-    let t = c .before .before .before in
-    let a = t .before .before .before .before .before .before .before .args in
-    let b = rest (a .file .now) (a .at) in
-    c .first3 .ensures ∙ ap₂ (λ (n : ℕ) (l : List ℕ). take (operationBytes * n) l) (c .before .byte-at2 .ensures) (c .before .before .behind2 .ensures) ∙ operate-hands b (t .if3 .taken) ∙ ap handedIn (to-end (a .file .now) (a .at))
-
 returns-4 : tie.Need-returns-4
+unfolding fixedOf eachOf
 returns-4 c =
     let t = c .before in
     let a = t .before .before .before .before .before .before .before .args in
-    let b = rest (a .file .now) (a .at) in
-    c .first4 .ensures ∙ other-hands b (t .before .before .if2 .left) (t .if3 .left) ∙ ap handedIn (to-end (a .file .now) (a .at))
+    rw (← to-end (a .file .now) (a .at), ← hands (rest (a .file .now) (a .at)) (t .if4 .taken), c .items3 .ensures)
+
+returns-5 : tie.Need-returns-5
+returns-5 c =
+    let t = c .before in
+    let a = t .before .before .before .before .before .before .before .args in
+    rw (← to-end (a .file .now) (a .at), ← other-hands (rest (a .file .now) (a .at)) (t .before .before .if2 .left) (t .before .if3 .left) (t .if4 .left), c .first2 .ensures)
 
 pub handed-at-spec : {M : Type 1} → statement M
 handed-at-spec =
@@ -102,21 +74,12 @@ handed-at-spec =
     sub-body
     part-body-start
     part-body-end
-    shared-slice-read-if2
-    cast-behind
-    behind-requires
-    byte-at-requires
-    cast-first
-    mul-first
-    first-requires-2
+    shared-slice-read-kind
+    items-requires
     returns-2
-    shared-slice-read-if3
-    cast-behind-2
-    behind-requires-2
-    byte-at-requires-2
-    cast-first-2
-    mul-first-2
-    first-requires-3
-    first-requires-4
+    items-requires-2
     returns-3
-    returns-4)
+    items-requires-3
+    first-requires-2
+    returns-4
+    returns-5)
