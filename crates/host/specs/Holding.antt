@@ -120,7 +120,7 @@ setsIn r = setsFrom r 0 slots
 
 -- where a process stands in a part by process; beyond it for no process
 abbrev pub entry : ℕ → ℕ
-entry zero = processes
+entry zero = 255
 entry (suc p) = p
 
 -- what a process sleeps with, replaced but for the array: its call, and since when and how long it waits

@@ -15,6 +15,7 @@ use crate::parts::SIZES_AT;
 use crate::parts::SLEEPS_AT;
 use model::ARRAY_BYTES;
 use model::PROCESSES;
+use std::num::wrapping_sub_u8;
 
 // How many sleep.
 pub fn asleep_of(host: &[u8; HOST_BYTES]) -> usize
@@ -55,11 +56,7 @@ pub fn put_process(host: &mut [u8; HOST_BYTES], at: usize, process: u8)
 pub fn entry_of(process: u8) -> usize
     ensures { λ r. ⌜ r ≡ entry process ⌝ }
 {
-    if process == 0 {
-        PROCESSES
-    } else {
-        (process - 1) as usize
-    }
+    wrapping_sub_u8(process, 1) as usize
 }
 
 // The slot that a process sleeps at, as the byte that it is in the row, and as an index.

@@ -1,9 +1,24 @@
 // Operate: an array of operations of a process at a set.
 ghost use mathlib.Core.Path.{_≡_};
+ghost use mathlib.Core.Logic.{_≢_};
+ghost use mathlib.Core.Bool.{cond};
+ghost use mathlib.Core.List.{[], _∷_, _++_};
+ghost use Prim.Native.Nat.{_<_};
+ghost use lib.IntN.{pos};
+ghost use lib.ListN.{length};
+ghost use Rattle.model.specs.declared.Outcome.the-variants.{Sleep};
+ghost use Rattle.model.specs.Limits.{processes};
+ghost use Rattle.model.specs.State.{Sleeper};
+ghost use Rattle.model.specs.Operation.{operationsOf};
+ghost use Rattle.model.specs.Judge.{codeOf};
+ghost use Rattle.model.specs.Marks.{namedBy};
 ghost use Rattle.model.specs.Waking.{waker};
 ghost use Rattle.model.specs.Clock.{atOnce};
 ghost use Rattle.model.specs.Events.{doOperate};
-ghost use Rattle.host.specs.Holding.{Held, hostIn, stateIn};
+ghost use Rattle.model.specs.Runs.{All};
+ghost use Rattle.host.specs.Parts.{rowIn};
+ghost use Rattle.host.specs.Holding.{Held, timeIn, withQueue, queueIn, hostIn, stateIn};
+ghost use Rattle.host.specs.Queue.{Room, QueueHeld};
 ghost use Rattle.service.specs.After.{afterIn, afterOf};
 use crate::events::nobody;
 use crate::events::not_done;
@@ -35,6 +50,31 @@ fn at_once(wait: Wait) -> bool
         Wait::Endless => false,
         Wait::Milliseconds(number) => number == 0,
     }
+}
+
+// A call that would sleep: with a wait of 0 it is refused and nothing changes, else it falls asleep. The answer is its code.
+fn would_sleep(
+    host: &mut [u8; HOST_BYTES],
+    process: u8,
+    slot: usize,
+    bytes: &[u8],
+    names: u8,
+    wait: Wait,
+) -> i32
+    requires { ⌜ QueueHeld (rowIn (now host)) ⌝ }
+    requires { ⌜ Room (record { process = process; slot = slot; array = now bytes; start = timeIn (rowIn (now host)); wait = wait }) ⌝ }
+    requires { ⌜ All (λ (s : Sleeper). s .process ≢ process) (queueIn (rowIn (now host))) ⌝ }
+    requires { ⌜ length (queueIn (rowIn (now host))) < processes ⌝ }
+    requires { ⌜ slot < 256 ⌝ }
+    requires { ⌜ names ≡ namedBy 0 (operationsOf (now bytes)) ⌝ }
+    ensures { λ _. ⌜ rowIn (now (host .exit)) ≡ cond (atOnce wait) (rowIn (now (host .entry))) (withQueue (rowIn (now (host .entry))) (queueIn (rowIn (now (host .entry))) ++ record { process = process; slot = slot; array = now (bytes .entry); start = timeIn (rowIn (now (host .entry))); wait = wait } ∷ [])) ⌝ }
+    ensures { λ r. ⌜ r ≡ cond (atOnce wait) (pos 11) (codeOf Sleep) ⌝ }
+{
+    if at_once(wait) {
+        return 11;
+    }
+    fall_asleep(host, process, slot, bytes, names, wait);
+    -1
 }
 
 // The array is judged on a copy: done, the copy becomes the state and the set is treated; else it sleeps, if it may wait, or is
@@ -78,11 +118,8 @@ pub fn operate(
             told(wake(host, adjustments, wakings, engine, slot, touched, nobody()))
         }
         Outcome::Sleep => {
-            if at_once(wait) {
-                return not_done(11, outcome, verdict.position);
-            }
-            fall_asleep(host, process, slot, bytes, checked.names, wait);
-            not_done(-1, outcome, verdict.position)
+            let code = would_sleep(host, process, slot, bytes, checked.names, wait);
+            not_done(code, outcome, verdict.position)
         }
         Outcome::Again => not_done(11, outcome, verdict.position),
         Outcome::Range => not_done(34, outcome, verdict.position),

@@ -21,7 +21,7 @@ unfolding mine
 returns c = rw (c .before .before .ending .given .1, ← c .slot-at .ensures)
 
 returns-2 : tie.Need-returns-2
-returns-2 c = rw (c .before .before .ending2 .given .1, ← c .is-due .ensures)
+returns-2 c = rw (c .before .before .ending2 .given .1) (c .is-due .ensures)
 
 pub is-ended-spec : {M : Type 1} → statement M
 is-ended-spec = tie.close (tie.spec enum-known-ending slot-at-requires enum-known-ending-2 is-due-requires returns returns-2)

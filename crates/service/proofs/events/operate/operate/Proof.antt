@@ -25,7 +25,7 @@ use Rattle.service_table.proofs.WrittenLaws.{sized-good, copies-applied}
 use Rattle.service_waking.specs.Lent.{JudgedAs, treated}
 use Rattle.service_waking.proofs.LookLaws.{values-in, undo-read, judged-as}
 use Rattle.service.proofs.EventLaws.{held-invariant, held-row, held-seated, refused-after, begun, begun-ready}
-use Rattle.service.proofs.events.operate.operate.Proof.Laws.{call-process, call-numbered, call-room, call-awake, call-few, done-lent, done-ready, done-after, again-after, at-once-after, range-after, sleep-after}
+use Rattle.service.proofs.events.operate.operate.Proof.Laws.{call-process, call-numbered, call-room, call-awake, call-few, done-lent, done-ready, done-after, again-after, range-after, would-sleep-after}
 use borrow.Author.Needs.{needs}
 use Rattle.service.proofs.events.operate.operate.Statement.{statement}
 use Rattle.service.proofs.events.operate.operate.Tie as tie
@@ -177,47 +177,34 @@ told-requires c κs = search needs
 enum-told-2 : tie.Need-enum-told-2
 enum-told-2 c = search needs
 
-at-once-requires : tie.Need-at-once-requires
-at-once-requires c κs = search needs
-
-not-done-requires : tie.Need-not-done-requires
-not-done-requires c κs = search needs
-
--- asleep: where the array was judged, and its outcome
-abbrev sleeps : tie.After-at-once → tie.After-judge
+-- asleep, or not for a wait of 0: where the array was judged
+abbrev sleeps : tie.After-would-sleep-arg → tie.After-judge
 sleeps c = c .before .before .before
 
-returns-2 : tie.Need-returns-2
-returns-2 c =
-    let a = c .before .before in
-    let j = sleeps a in
-    let s = entered j in
-    at-once-after (x s) (s .pre) _ _ (s .args .wait) _ (passes j) (s .args .engine) _ _ _ (judged j) (a .before .enum-told2 .given .1) (sym (a .at-once .ensures) ∙ c .before .if2 .taken) (cleared j .clear .ensures) (c .not-done .ensures)
-
-fall-asleep-requires : tie.Need-fall-asleep-requires
-fall-asleep-requires c κs =
-    let j = sleeps (c .before .before) in
+would-sleep-requires : tie.Need-would-sleep-requires
+would-sleep-requires c κs =
+    let j = sleeps c in
     let s = entered j in
     let z = passes j in
     (held-row (x s) (s .pre), (rw (slot (slotted j)) (call-room (x s) (s .pre) _ _ (s .args .wait) _ z), (call-awake (x s) (s .pre) _ _ (s .args .wait) _ z, (call-few (x s) (s .pre) _ _ (s .args .wait) _ z, (omega (arith, slot-is (slotted j)), names j)))))
 
-not-done-requires-2 : tie.Need-not-done-requires-2
-not-done-requires-2 c κs = search needs
+not-done-requires : tie.Need-not-done-requires
+not-done-requires c κs = search needs
 
 enum-told-3 : tie.Need-enum-told-3
 enum-told-3 c = search needs
 
-not-done-requires-3 : tie.Need-not-done-requires-3
-not-done-requires-3 c κs = search needs
+not-done-requires-2 : tie.Need-not-done-requires-2
+not-done-requires-2 c κs = search needs
 
 enum-told-4 : tie.Need-enum-told-4
 enum-told-4 c = search needs
 
-not-done-requires-4 : tie.Need-not-done-requires-4
-not-done-requires-4 c κs = search needs
+not-done-requires-3 : tie.Need-not-done-requires-3
+not-done-requires-3 c κs = search needs
 
-returns-3 : tie.Need-returns-3
-returns-3 c =
+returns-2 : tie.Need-returns-2
+returns-2 c =
     let n = c .before .before in
     let a = n .before .before .before .before .before in
     let j = done a in
@@ -227,24 +214,26 @@ returns-3 c =
     done-after (x s) (s .pre) _ _ (s .args .wait) _ (passes j) (s .args .engine) _ _ _ (judged j) e (slot (slotted j)) (values-are (j .before .before .before .before .before)) (sizes j .0)
     (begun (n .nobody .ensures) lent (treated (s .args .engine) _ _) (c .before .wake .ensures)) (n .before .before .before .before .differing-mask .ensures) (c .told .ensures)
 
+returns-3 : tie.Need-returns-3
+returns-3 c =
+    let w = c .before in
+    let j = sleeps (w .before) in
+    let s = entered j in
+    let gone = w .would-sleep .ensures in
+    would-sleep-after (x s) (s .pre) _ _ (s .args .wait) _ (passes j) (s .args .engine) _ _ _ (judged j) (w .before .before .enum-told2 .given .1) (rw (slot (slotted j)) at (gone .0))
+    (toZ-ofZ (record { sfits = w .would-sleep .ok }) ∙ gone .1) (cleared j .clear .ensures) (c .not-done .ensures)
+
 returns-4 : tie.Need-returns-4
 returns-4 c =
-    let e = c .before .before .before in
-    let j = sleeps (e .before) in
+    let j = c .before .before .before in
     let s = entered j in
-    sleep-after (x s) (s .pre) _ _ (s .args .wait) _ (passes j) (s .args .engine) _ _ _ (judged j) (e .before .before .enum-told2 .given .1) (sym (e .before .at-once .ensures) ∙ e .if2 .left) (rw (slot (slotted j)) at (c .before .fall-asleep .ensures)) (cleared j .clear .ensures) (c .not-done2 .ensures)
+    again-after (x s) (s .pre) _ _ (s .args .wait) _ (passes j) (s .args .engine) _ _ _ (judged j) (c .before .enum-told3 .given .1) (cleared j .clear .ensures) (c .not-done2 .ensures)
 
 returns-5 : tie.Need-returns-5
 returns-5 c =
     let j = c .before .before .before in
     let s = entered j in
-    again-after (x s) (s .pre) _ _ (s .args .wait) _ (passes j) (s .args .engine) _ _ _ (judged j) (c .before .enum-told3 .given .1) (cleared j .clear .ensures) (c .not-done3 .ensures)
-
-returns-6 : tie.Need-returns-6
-returns-6 c =
-    let j = c .before .before .before in
-    let s = entered j in
-    range-after (x s) (s .pre) _ _ (s .args .wait) _ (passes j) (s .args .engine) _ _ _ (judged j) (c .before .enum-told4 .given .1) (cleared j .clear .ensures) (c .not-done4 .ensures)
+    range-after (x s) (s .pre) _ _ (s .args .wait) _ (passes j) (s .args .engine) _ _ _ (judged j) (c .before .enum-told4 .given .1) (cleared j .clear .ensures) (c .not-done3 .ensures)
 
 pub operate-spec : {M : Type 1} → statement M
 operate-spec =
@@ -265,16 +254,13 @@ operate-spec =
     wake-requires
     told-requires
     enum-told-2
-    at-once-requires
+    would-sleep-requires
     not-done-requires
-    returns-2
-    fall-asleep-requires
-    not-done-requires-2
     enum-told-3
-    not-done-requires-3
+    not-done-requires-2
     enum-told-4
-    not-done-requires-4
+    not-done-requires-3
+    returns-2
     returns-3
     returns-4
-    returns-5
-    returns-6)
+    returns-5)

@@ -1,9 +1,9 @@
 -- Operate, once no check applies: as its array is judged.
 use Prim.Native.Nat.{ℕ, _%_, _≤_, _<_}
 use native.Mathlib.Omega.{arith}
-use mathlib.Core.Path.{_≡_, sym, ap, ap₂, _∙_}
+use mathlib.Core.Path.{_≡_, refl, sym, ap, ap₂, _∙_}
 use mathlib.Core.Logic.{_≢_}
-use mathlib.Core.Bool.{true, false}
+use mathlib.Core.Bool.{Bool, true, false, cond}
 use mathlib.Core.List.{List, [], _∷_, _++_}
 use lib.IntN.{ℤ, pos, negsuc}
 use lib.ListN.{length, take, length-append}
@@ -146,7 +146,7 @@ module _ (x : Host) (k : Held x) (p : ℕ) (i : ℤ) (wait : Wait) (bytes : List
     again-after e el et = judged-after 11 el et ∙ does e
 
     -- a wait of 0 that would sleep
-    pub at-once-after : {l : List Place} {told : Told} → o ≡ Sleep → atOnce wait ≡ true → l ≡ listOf [] → told ≡ tellingAt (pos 11) (decidedAt o (n % 256)) 0 0 0
+    at-once-after : {l : List Place} {told : Told} → o ≡ Sleep → atOnce wait ≡ true → l ≡ listOf [] → told ≡ tellingAt (pos 11) (decidedAt o (n % 256)) 0 0 0
         → record { host = x; wakings = l; told = told } ≡ afterOf (doOperate (waker engine) (stateIn x) p i wait bytes)
     unfolding wouldSleep operated
     at-once-after e w el et = judged-after 11 el et ∙ (rw w at (does e))
@@ -158,7 +158,7 @@ module _ (x : Host) (k : Held x) (p : ℕ) (i : ℤ) (wait : Wait) (bytes : List
 
     -- ---- asleep
 
-    pub sleep-after : {r : Row} {l : List Place} {told : Told} → o ≡ Sleep → atOnce wait ≡ false → r ≡ withQueue (x .row) (queueIn (x .row) ++ made ∷ []) → l ≡ listOf []
+    sleep-after : {r : Row} {l : List Place} {told : Told} → o ≡ Sleep → atOnce wait ≡ false → r ≡ withQueue (x .row) (queueIn (x .row) ++ made ∷ []) → l ≡ listOf []
         → told ≡ tellingAt (negsuc 0) (decidedAt o (n % 256)) 0 0 0
         → record { host = record { row = r; adjustments = x .adjustments }; wakings = l; told = told } ≡ afterOf (doOperate (waker engine) (stateIn x) p i wait bytes)
     unfolding wouldSleep operated codeOf
@@ -169,3 +169,15 @@ module _ (x : Host) (k : Held x) (p : ℕ) (i : ℤ) (wait : Wait) (bytes : List
         ap₂ (λ (y : Host) (w : List Place). record { host = y; wakings = w; told = told }) h el
         ∙ ap (λ (u : Told). record { host = hostOf (stateWith x (tableIn x) longer); wakings = listOf []; told = u }) (et ∙ ap (λ (d : Position). tellingAt (negsuc 0) d 0 0 0) named-is)
         ∙ rw w at (does e)
+
+    -- either of the two, as its wait has it
+    pub would-sleep-after : {r : Row} {l : List Place} {code : ℤ} {told : Told} → o ≡ Sleep → r ≡ cond (atOnce wait) (x .row) (withQueue (x .row) (queueIn (x .row) ++ made ∷ []))
+        → code ≡ cond (atOnce wait) (pos 11) (codeOf Sleep) → l ≡ listOf [] → told ≡ tellingAt code (decidedAt o (n % 256)) 0 0 0
+        → record { host = record { row = r; adjustments = x .adjustments }; wakings = l; told = told } ≡ afterOf (doOperate (waker engine) (stateIn x) p i wait bytes)
+    unfolding codeOf
+    would-sleep-after {r} {l} {code} {told} e er ec el et = go (atOnce wait) refl er (et ∙ ap (λ (k : ℤ). tellingAt k (decidedAt o (n % 256)) 0 0 0) ec)
+      where
+        go : (b : Bool) → atOnce wait ≡ b → r ≡ cond b (x .row) (withQueue (x .row) (queueIn (x .row) ++ made ∷ [])) → told ≡ tellingAt (cond b (pos 11) (codeOf Sleep)) (decidedAt o (n % 256)) 0 0 0
+            → record { host = record { row = r; adjustments = x .adjustments }; wakings = l; told = told } ≡ afterOf (doOperate (waker engine) (stateIn x) p i wait bytes)
+        go true w er et = ap (λ (y : Row). record { host = record { row = y; adjustments = x .adjustments }; wakings = l; told = told }) er ∙ at-once-after e w el et
+        go false w er et = sleep-after e w er el et
