@@ -29,9 +29,9 @@ event 4: the time is 1249 ms
   values  set 0: 0
   waits   set 0, semaphore 0: 2 for increase, 0 for zero
 
-event 5: query semaphore 0 of set 0
-  line    5 0 0 0 2 0
-  answer  done (0), value 0, last process 0, waiting 2 for increase, 0 for zero
+event 5: read all of set 0
+  line    5 0 0 2 0
+  answer  done (0); semaphore 0: value 0, waiting 2 for increase, 0 for zero
   values  set 0: 0
   waits   set 0, semaphore 0: 2 for increase, 0 for zero
 
@@ -42,9 +42,9 @@ event 6: the time is 1250 ms
   values  set 0: 0
   waits   set 0, semaphore 0: 1 for increase, 0 for zero
 
-event 7: query semaphore 0 of set 0
-  line    7 0 0 0 1 0
-  answer  done (0), value 0, last process 0, waiting 1 for increase, 0 for zero
+event 7: read all of set 0
+  line    7 0 0 1 0
+  answer  done (0); semaphore 0: value 0, waiting 1 for increase, 0 for zero
   values  set 0: 0
   waits   set 0, semaphore 0: 1 for increase, 0 for zero
 
