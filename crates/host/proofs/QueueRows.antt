@@ -14,8 +14,8 @@ use Rattle.model.specs.Runs.{All}
 use Rattle.model.specs.Invariant.{Fits, Distinct}
 use Rattle.model.proofs.Lists.{all-map, all-at, all-without, length-without}
 use Rattle.model.proofs.QueueLaws.{distinct-without, others-without, fits-few}
-use Rattle.host.specs.Parts.{asleep, order, sleepsAt, sizes, starts, waits, arrays, Row, with, put}
-use Rattle.host.specs.Holding.{byProcess, blocksFrom, orderOf, theSlot, theSize, theStart, theWait, Kept, kept, withQueue, entry, arrayIn, sleeperIn, queueIn}
+use Rattle.host.specs.Parts.{asleep, order, sleepsAt, sizes, waits, arrays, Row, with, put}
+use Rattle.host.specs.Holding.{byProcess, blocksFrom, orderOf, theSlot, theSize, theWait, Kept, kept, withQueue, entry, arrayIn, sleeperIn, queueIn}
 use Rattle.host.specs.Waits.{waitOf}
 use Rattle.host.specs.Queue.{Room, Queued}
 use Rattle.host.proofs.PartLaws.{by-groups}
@@ -144,9 +144,6 @@ module _ (q : List Sleeper) (f : Queued q) (i : ℕ) (h : i < length q) where
 
     pub size-read : getD (withQueue r q sizes) (entry (getD q i noSleeper .process)) 0 ≡ length (getD q i noSleeper .array)
     size-read = kept-read theSize
-
-    pub start-read : getD (withQueue r q starts) (entry (getD q i noSleeper .process)) 0 ≡ getD q i noSleeper .start
-    start-read = kept-read theStart
 
     pub wait-read : waitOf (getD (withQueue r q waits) (entry (getD q i noSleeper .process)) 0) ≡ getD q i noSleeper .wait
     wait-read = ap waitOf (kept-read theWait) ∙ wait-back (sleeper .wait)

@@ -1,4 +1,4 @@
--- A wait and its number are one, and whether it is over, in numbers that cannot be too large.
+-- A wait is read back from its number; and whether it is over, in numbers that cannot be too large.
 use Prim.Native.Nat.{ℕ, zero, suc, _+_, _-_, _≤_, _<_}
 use native.Mathlib.Numerals.{add-one}
 use native.Mathlib.Omega.{arith}
@@ -16,11 +16,6 @@ pub wait-back : (w : Wait) → waitOf (waitNumber w) ≡ w
 unfolding waitNumber waitOf
 wait-back Endless = refl
 wait-back (Milliseconds n) = ap waitOf (add-one n)
-
-pub number-back : (n : ℕ) → waitNumber (waitOf n) ≡ n
-unfolding waitNumber waitOf
-number-back zero = refl
-number-back (suc n) = add-one n
 
 module _ (time start : ℕ) where
   pub never-over : (wait : ℕ) → wait ≡ 0 → overBy time start (waitOf wait) ≡ false

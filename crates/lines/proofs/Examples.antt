@@ -37,6 +37,11 @@ would-sleep : wakingText 3 (pos 11) (At 1) ≡ 32 ∷ 51 ∷ 61 ∷ 49 ∷ 49 �
 unfolding digitsIn digitsOf signedOf positionText wakingText
 would-sleep = refl
 
+-- an expiry: ` 1=11`
+gave-up : wakingText 1 (pos 11) Nowhere ≡ 32 ∷ 49 ∷ 61 ∷ 49 ∷ 49 ∷ []
+unfolding digitsIn digitsOf signedOf positionText wakingText
+gave-up = refl
+
 -- `bad 202`, and a refused query at position 10: `10 22 0 0 0 0`
 bad-chain : badLine 202 ≡ 98 ∷ 97 ∷ 100 ∷ 32 ∷ 50 ∷ 48 ∷ 50 ∷ 10 ∷ []
 unfolding digitsIn digitsOf wordLine

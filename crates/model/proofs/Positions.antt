@@ -19,6 +19,7 @@ use Rattle.model.specs.declared.Position.the-variants.{Nowhere, At}
 use Rattle.model.specs.declared.Copies.{Copies}
 use Rattle.model.specs.declared.Judged.{Judged}
 use Rattle.model.specs.declared.Wait.{Wait}
+use Rattle.model.specs.declared.Waking.{Waking}
 use Rattle.model.specs.declared.Set.{Set}
 use Rattle.model.specs.declared.Engine.{Engine}
 use Rattle.model.specs.Limits.{operations, operationBytes}
@@ -32,7 +33,7 @@ use Rattle.model.specs.Checks.{slotOf, checkCreate, checkOperate, checkN
 use Rattle.model.specs.Events.{Event, create, operate, setValue, remove, signal, exit, query, setAll, readAll, clock, Result, checked, endedWith, wouldSleep, operated, call, event, doCreate, doOperate, doSetValue, doRemove, doSignal, doExit, doQuery, doSetAll, doReadAll, doClock}
 use Rattle.model.specs.Runs.{All, none, also}
 use Rattle.model.specs.Invariant.{Fits}
-use Rattle.model.specs.Positions.{Decides, WakingNamed, done, again, range, removed, signalled, expired, CallNamed, Named, Names}
+use Rattle.model.specs.Positions.{Decides, WakingNamed, done, again, range, removed, signalled, expired, CallNamed, Named, WakingOf, Names}
 use Rattle.model.proofs.Lists.{all-append}
 use Rattle.model.proofs.JudgeLaws.{either}
 use Rattle.model.proofs.Rules.{KeptByFinish, tame}
@@ -264,12 +265,12 @@ named-kept slot w i h lt mi f =
 wake-named : (engine : Engine) (slot touched : ℕ) (w : World) (l : ℕ) → AllNamed w → AllNamed (waker engine slot touched w l .world)
 wake-named engine slot touched w l = tame engine .keeps slot touched w l AllNamed (named-kept slot)
 
-ended-named : (code : ℤ) (test : Sleeper → Bool) (q : List Sleeper) → ((p : ℕ) → WakingNamed (waking p code Nowhere)) → All WakingNamed (endedWith code test q)
+ended-named : {P : Waking → Type 0} (code : ℤ) (test : Sleeper → Bool) (q : List Sleeper) → ((p : ℕ) → P (waking p code Nowhere)) → All P (endedWith code test q)
 unfolding endedWith
 ended-named code test [] h = none
-ended-named code test (s ∷ q) h = either (All WakingNamed) (test s) _ _ (also (h (s .process)) (ended-named code test q h)) (ended-named code test q h)
+ended-named {P} code test (s ∷ q) h = either (All P) (test s) _ _ (also (h (s .process)) (ended-named code test q h)) (ended-named code test q h)
 
-checked-wakings : (code : ℕ) (s : State) (r : Result) → All WakingNamed (r .wakings) → All WakingNamed (checked code s r .wakings)
+checked-wakings : {P : Waking → Type 0} (code : ℕ) (s : State) (r : Result) → All P (r .wakings) → All P (checked code s r .wakings)
 checked-wakings zero s r h = h
 checked-wakings (suc code) s r h = none
 
@@ -280,7 +281,7 @@ operated-wakings engine s c Sleep at copies = either (λ (r : Result). All Wakin
 operated-wakings engine s c Again at copies = none
 operated-wakings engine s c Range at copies = none
 
-wakings-named : (engine : Engine) (s : State) (e : Event) → All WakingNamed (event (waker engine) s e .wakings)
+wakings-named : (engine : Engine) (s : State) (e : Event) → All (WakingOf e) (event (waker engine) s e .wakings)
 unfolding event doCreate doOperate doSetValue doRemove doSignal doExit doQuery doSetAll doReadAll doClock
 wakings-named engine s (create count read alter) = checked-wakings (checkCreate s count) s _ none
 wakings-named engine s (operate p i wait bytes) = checked-wakings (checkOperate s p i bytes) s _ (operated-wakings engine s (call (s .time) p i wait bytes) _ _ _)
@@ -291,7 +292,7 @@ wakings-named engine s (exit p) = checked-wakings (checkProcess p) s _ (treatFro
 wakings-named engine s (query i n) = checked-wakings (checkNumber s i n) s _ none
 wakings-named engine s (setAll i bytes) = checked-wakings (checkSetAll s i bytes) s _ (wake-named engine (slotOf i) _ _ 0 none)
 wakings-named engine s (readAll i) = checked-wakings (checkSet s i) s _ none
-wakings-named engine s (clock now) = checked-wakings (checkClock s now) s _ (ended-named (pos 11) _ (s .queue) expired)
+wakings-named engine s (clock now) = checked-wakings (checkClock s now) s _ (ended-named (pos 11) _ _ expired)
 
 -- in any state, in either engine
 pub event-names : (engine : Engine) (s : State) (e : Event) → Names s e (event (waker engine) s e)

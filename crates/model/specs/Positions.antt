@@ -28,14 +28,17 @@ pub record Decides (start : Copies) (os : List Operation) (i : ℕ) : Type 0 whe
   pub decides : judge start (take (suc i) os) .outcome ≡ judge start os .outcome
   pub stops : judge start os .outcome ≢ Done
 
--- "each waking with 11 or 34" names an operation; one with 0, 43 or 4, and "an 11 by expiry", names none
+-- "each waking with 11 or 34" names an operation; one with 0, 43 or 4 names none
 pub data WakingNamed : Waking → Type 0 where
   done : (p : ℕ) → WakingNamed (waking p (pos 0) Nowhere)
   again : (p k : ℕ) → WakingNamed (waking p (pos 11) (At k))
   range : (p k : ℕ) → WakingNamed (waking p (pos 34) (At k))
   removed : (p : ℕ) → WakingNamed (waking p (pos 43) Nowhere)
   signalled : (p : ℕ) → WakingNamed (waking p (pos 4) Nowhere)
-  expired : (p : ℕ) → WakingNamed (waking p (pos 11) Nowhere)
+
+-- "an 11 by expiry" names none
+pub data Expired : Waking → Type 0 where
+  expired : (p : ℕ) → Expired (waking p (pos 11) Nowhere)
 
 -- The operation that an operate's answer names decides its call, on the state as it stood; and the one that decides is named, once
 -- the checks let the call through.
@@ -56,7 +59,20 @@ Named s (setAll i bytes) a = a .position ≡ Nowhere
 Named s (readAll i) a = a .position ≡ Nowhere
 Named s (clock now) a = a .position ≡ Nowhere
 
+-- The clock alone ends sleepers by expiry, and in no other way.
+abbrev pub WakingOf : Event → Waking → Type 0
+WakingOf (create count read alter) w = WakingNamed w
+WakingOf (operate p i wait bytes) w = WakingNamed w
+WakingOf (setValue i n v) w = WakingNamed w
+WakingOf (remove i) w = WakingNamed w
+WakingOf (signal p) w = WakingNamed w
+WakingOf (exit p) w = WakingNamed w
+WakingOf (query i n) w = WakingNamed w
+WakingOf (setAll i bytes) w = WakingNamed w
+WakingOf (readAll i) w = WakingNamed w
+WakingOf (clock now) w = Expired w
+
 -- what is claimed of one event
 pub record Names (s : State) (e : Event) (r : Result) : Type 0 where
   pub answer : Named s e (r .answer)
-  pub wakings : All WakingNamed (r .wakings)
+  pub wakings : All (WakingOf e) (r .wakings)

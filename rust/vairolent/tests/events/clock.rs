@@ -181,6 +181,11 @@ fn hosts_are_told_apart_by_time_and_wait() {
     for (at, one) in hosts.iter().enumerate() {
         assert!(hosts[at + 1..].iter().all(|other| other != one));
     }
+    // The start is kept without a wait too.
+    let mut earlier = fresh.clone();
+    sleep(&mut earlier, set, &[1], &[TAKE]);
+    assert_eq!(over(&mut earlier, 1), []);
+    assert_ne!(earlier, hosts[3]);
     let mut later = fresh;
     wait(&mut later, 1, set, 5);
     assert_eq!(over(&mut later, 1), []);
