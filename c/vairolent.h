@@ -168,18 +168,18 @@ static inline struct vairolent_told vairolent_create(struct vairolent_host *host
  * the process's undo adjustment. The first operation that stops, or gives ERANGE, decides, and the position told is its
  * position: where it stops the process sleeps (VAIROLENT_ASLEEP) and nothing else changes. If none does the array is
  * done, the process becomes the last of every semaphore that the array names, amounts of 0 included, and sleepers are
- * woken. The archive's function takes the bytes of the operations, six for each.
+ * woken. The archive's function takes the bytes of the operations, six for each, and whether there is a wait, and which.
  * Refused, the first that applies: ESRCH process not 1 to 8; EBUSY it is asleep; EINVAL no operations, or bytes not a
  * multiple of 6; E2BIG over 32 operations; EINVAL no such set; EFBIG a number at or above the set's count; EACCES not
  * permitted; then as the deciding operation has it, with its position: EAGAIN it stops and has IPC_NOWAIT; ERANGE it
  * would take its value, or with SEM_UNDO the adjustment, out of its range. */
 struct vairolent_told vairolent_operate_in(uint8_t *row, int16_t *adjustments, struct vairolent_waking *wakings,
-                                           uint8_t process, int32_t identifier, const uint8_t *operations,
-                                           size_t bytes);
+                                           uint8_t process, int32_t identifier, bool waits, uint32_t wait,
+                                           const uint8_t *operations, size_t bytes);
 static inline struct vairolent_told vairolent_operate(struct vairolent_host *host, uint8_t process, int32_t identifier,
                                                       const struct sembuf *operations, size_t count)
 {
-    return vairolent_operate_in(host->row, host->adjustments, host->wakings, process, identifier,
+    return vairolent_operate_in(host->row, host->adjustments, host->wakings, process, identifier, false, 0,
                                 vairolent_bytes(operations, count),
                                 vairolent_byte_count(count, VAIROLENT_OPERATIONS, VAIROLENT_OPERATION_BYTES));
 }
@@ -190,16 +190,13 @@ static inline struct vairolent_told vairolent_operate(struct vairolent_host *hos
  * would wait for ever calls vairolent_operate.
  * Refused as above, and where the process would sleep and the wait is 0: EAGAIN, with the position of the operation
  * that stops. */
-struct vairolent_told vairolent_operate_within_in(uint8_t *row, int16_t *adjustments, struct vairolent_waking *wakings,
-                                                  uint8_t process, int32_t identifier, uint32_t wait,
-                                                  const uint8_t *operations, size_t bytes);
 static inline struct vairolent_told vairolent_operate_within(struct vairolent_host *host, uint8_t process,
                                                              int32_t identifier, const struct sembuf *operations,
                                                              size_t count, uint32_t wait)
 {
-    return vairolent_operate_within_in(host->row, host->adjustments, host->wakings, process, identifier, wait,
-                                       vairolent_bytes(operations, count),
-                                       vairolent_byte_count(count, VAIROLENT_OPERATIONS, VAIROLENT_OPERATION_BYTES));
+    return vairolent_operate_in(host->row, host->adjustments, host->wakings, process, identifier, true, wait,
+                                vairolent_bytes(operations, count),
+                                vairolent_byte_count(count, VAIROLENT_OPERATIONS, VAIROLENT_OPERATION_BYTES));
 }
 
 /* Sets the value of a semaphore, forgets all undo adjustments of it, and wakes sleepers, even if the value is the same.

@@ -314,13 +314,13 @@ static void whole_operations(void)
         if (bytes == 0 || bytes % VAIROLENT_OPERATION_BYTES != 0)
             wanted = EINVAL;
         struct vairolent_told told =
-            vairolent_operate_in(host.row, host.adjustments, host.wakings, 1, 0, zeros, bytes);
+            vairolent_operate_in(host.row, host.adjustments, host.wakings, 1, 0, false, 0, zeros, bytes);
         told_is("so many bytes", told, wanted, NONE);
-        told = vairolent_operate_within_in(host.row, host.adjustments, host.wakings, 1, 0, 0, zeros, bytes);
+        told = vairolent_operate_in(host.row, host.adjustments, host.wakings, 1, 0, true, 0, zeros, bytes);
         told_is("so many bytes, with a wait", told, wanted, NONE);
     }
     want("199 bytes",
-         vairolent_operate_in(host.row, host.adjustments, host.wakings, 1, 0, zeros, 199).code, EINVAL);
+         vairolent_operate_in(host.row, host.adjustments, host.wakings, 1, 0, false, 0, zeros, 199).code, EINVAL);
 }
 
 /* Sleepers with as many operations as there can be: one is woken, and one is ended with ERANGE at its last. */

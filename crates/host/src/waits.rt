@@ -59,7 +59,7 @@ pub fn put_wait(host: &mut [u8; HOST_BYTES], process: u8, start: u64, wait: u64)
     }
 }
 
-// Is the wait of a process over at this time?
+// Is the wait of a process over at this time? Start plus wait is asked for by the difference, which is never too large.
 pub fn is_due(host: &[u8; HOST_BYTES], process: u8, time: u64) -> bool
     ensures { λ r. ⌜ r ≡ overBy time (startIn (rowIn (now (host .entry))) process) (waitOf (waitIn (rowIn (now (host .entry))) process)) ⌝ }
 {

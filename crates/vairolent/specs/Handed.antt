@@ -1,11 +1,13 @@
 -- What an event leaves and tells, as a caller in another language has it.
 use Prim.Native.Nat.{ℕ}
-use mathlib.Core.Bool.{true, false, cond}
+use mathlib.Core.Bool.{Bool, true, false, cond}
 use mathlib.Core.List.{List}
 use lib.IntN.{ℤ}
 use Rattle.model.specs.declared.Position.{Position}
 use Rattle.model.specs.declared.Position.the-variants.{Nowhere, At}
 use Rattle.model.specs.declared.Told.{Told}
+use Rattle.model.specs.declared.Wait.{Wait}
+use Rattle.model.specs.declared.Wait.the-variants.{Endless, Milliseconds}
 use Rattle.host.specs.Holding.{Host, hostIn}
 use Rattle.wakings.specs.Wakings.{Place, placesIn}
 use Rattle.service.specs.After.{After, tellingAt}
@@ -16,6 +18,11 @@ use Rattle.vairolent.specs.declared.Reported.{Reported}
 abbrev pub decidedOf : Position → Decided
 decidedOf Nowhere = record { there = false; at = 0 }
 decidedOf (At k) = record { there = true; at = k }
+
+-- the wait of an operate: whether there is one, and its milliseconds
+abbrev pub waitBy : Bool → ℕ → Wait
+waitBy true n = Milliseconds n
+waitBy false n = Endless
 
 -- all that an event tells
 abbrev pub reportOf : Told → Reported

@@ -11,11 +11,10 @@ ghost use Rattle.model.specs.Waking.{waker};
 ghost use Rattle.model.specs.Events.{doCreate, doOperate, doSetValue, doRemove, doSignal, doExit, doQuery, doSetAll, doClock};
 ghost use Rattle.model.specs.WholeSet.{querySet};
 ghost use Rattle.model.specs.declared.Engine.the-variants.{Quick};
-ghost use Rattle.model.specs.declared.Wait.the-variants.{Endless, Milliseconds};
 ghost use Rattle.host.specs.Holding.{Held, hostIn, hostOf, stateIn};
 ghost use Rattle.wakings.specs.Wakings.{placesIn, listOf};
 ghost use Rattle.service.specs.After.{afterOf, queriedOf};
-ghost use Rattle.vairolent.specs.Handed.{decidedOf, reportOf, handedIn, handedOf};
+ghost use Rattle.vairolent.specs.Handed.{decidedOf, reportOf, waitBy, handedIn, handedOf};
 ghost use Rattle.vairolent.specs.Limits.{theLimits};
 use host::HOST_BYTES;
 use model::ALL_ADJUSTMENTS;
@@ -126,6 +125,17 @@ fn report(told: Told) -> Reported
     }
 }
 
+// A wait, as C hands it in: whether there is one, and its milliseconds.
+fn wait_of(waits: bool, wait: u32) -> Wait
+    ensures { λ r. ⌜ r ≡ waitBy waits wait ⌝ }
+{
+    if waits {
+        Wait::Milliseconds(wait)
+    } else {
+        Wait::Endless
+    }
+}
+
 #[no_mangle]
 pub extern "C" fn vairolent_create_in(
     row: &mut [u8; HOST_BYTES],
@@ -148,36 +158,12 @@ pub extern "C" fn vairolent_operate_in(
     wakings: &mut [u8; WAKING_BYTES],
     process: u8,
     identifier: i32,
-    operations: &[u8],
-) -> Reported
-    requires { ⌜ Held (hostIn (now row) (now adjustments)) ⌝ }
-    ensures { λ r. ⌜ handedIn (now (row .exit)) (now (adjustments .exit)) (now (wakings .exit)) r ≡ handedOf (afterOf (doOperate (waker Quick) (stateIn (hostIn (now (row .entry)) (now (adjustments .entry)))) process identifier Endless (now (operations .entry)))) ⌝ }
-{
-    report(service::operate(
-        row,
-        adjustments,
-        wakings,
-        Engine::Quick,
-        process,
-        identifier,
-        Wait::Endless,
-        operations,
-    ))
-}
-
-// The same call, which waits so many milliseconds at most.
-#[no_mangle]
-pub extern "C" fn vairolent_operate_within_in(
-    row: &mut [u8; HOST_BYTES],
-    adjustments: &mut [i16; ALL_ADJUSTMENTS],
-    wakings: &mut [u8; WAKING_BYTES],
-    process: u8,
-    identifier: i32,
+    waits: bool,
     wait: u32,
     operations: &[u8],
 ) -> Reported
     requires { ⌜ Held (hostIn (now row) (now adjustments)) ⌝ }
-    ensures { λ r. ⌜ handedIn (now (row .exit)) (now (adjustments .exit)) (now (wakings .exit)) r ≡ handedOf (afterOf (doOperate (waker Quick) (stateIn (hostIn (now (row .entry)) (now (adjustments .entry)))) process identifier (Milliseconds wait) (now (operations .entry)))) ⌝ }
+    ensures { λ r. ⌜ handedIn (now (row .exit)) (now (adjustments .exit)) (now (wakings .exit)) r ≡ handedOf (afterOf (doOperate (waker Quick) (stateIn (hostIn (now (row .entry)) (now (adjustments .entry)))) process identifier (waitBy waits wait) (now (operations .entry)))) ⌝ }
 {
     report(service::operate(
         row,
@@ -186,7 +172,7 @@ pub extern "C" fn vairolent_operate_within_in(
         Engine::Quick,
         process,
         identifier,
-        Wait::Milliseconds(wait),
+        wait_of(waits, wait),
         operations,
     ))
 }

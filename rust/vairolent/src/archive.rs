@@ -127,24 +127,14 @@ extern "C" {
         alter: u8,
     ) -> Told;
 
-    /// The operations are so many bytes, six for each.
+    /// The operations are so many bytes, six for each. The wait is in milliseconds, if there is one.
     pub fn vairolent_operate_in(
         row: &mut Row,
         adjustments: &mut Adjustments,
         wakings: &mut List,
         process: u8,
         identifier: i32,
-        operations: *const u8,
-        bytes: usize,
-    ) -> Told;
-
-    /// The wait is in milliseconds; the operations are as above.
-    pub fn vairolent_operate_within_in(
-        row: &mut Row,
-        adjustments: &mut Adjustments,
-        wakings: &mut List,
-        process: u8,
-        identifier: i32,
+        waits: bool,
         wait: u32,
         operations: *const u8,
         bytes: usize,

@@ -73,14 +73,6 @@ fn settled(told: Told, list: List) -> Result<(Told, Wakings), Error> {
     Ok((told, wakings))
 }
 
-/// What becomes of a call that is not refused.
-fn answered((told, wakings): (Told, Wakings)) -> Answer {
-    match told.position.get() {
-        Some(position) => Answer::Asleep { position },
-        None => Answer::Done(wakings),
-    }
-}
-
 impl Host {
     /// A fresh host: four free slots, every adjustment at zero, no sleepers, and time 0.
     ///
@@ -180,9 +172,7 @@ impl Host {
         identifier: i32,
         operations: &[Operation],
     ) -> Result<Answer, Error> {
-        let bytes = size_of_val(operations);
-        let operations = operations.as_ptr().cast();
-        lend!(self to vairolent_operate_in(process, identifier, operations, bytes)).map(answered)
+        self.call(process, identifier, operations, None)
     }
 
     /// Does operations as [`Host::operate`] does, but sleeps for a wait at most, in milliseconds.
@@ -216,10 +206,26 @@ impl Host {
         operations: &[Operation],
         wait: u32,
     ) -> Result<Answer, Error> {
+        self.call(process, identifier, operations, Some(wait))
+    }
+
+    fn call(
+        &mut self,
+        process: u8,
+        identifier: i32,
+        operations: &[Operation],
+        wait: Option<u32>,
+    ) -> Result<Answer, Error> {
         let bytes = size_of_val(operations);
         let operations = operations.as_ptr().cast();
-        lend!(self to vairolent_operate_within_in(process, identifier, wait, operations, bytes))
-            .map(answered)
+        let (waits, wait) = (wait.is_some(), wait.unwrap_or(0));
+        let (told, wakings) = lend!(
+            self to vairolent_operate_in(process, identifier, waits, wait, operations, bytes)
+        )?;
+        Ok(match told.position.get() {
+            Some(position) => Answer::Asleep { position },
+            None => Answer::Done(wakings),
+        })
     }
 
     /// Sets a semaphore to a value, and clears its adjustments for all processes.
