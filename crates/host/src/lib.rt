@@ -45,6 +45,4 @@ pub use start::fresh;
 pub use start::no_adjustments;
 pub use waits::is_due;
 pub use waits::put_wait;
-pub use waits::start_at;
-pub use waits::wait_at;
 pub use waits::wait_number;

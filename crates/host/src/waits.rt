@@ -24,7 +24,7 @@ pub fn wait_number(wait: Wait) -> u64
 }
 
 // The time that was last told when a process went to sleep.
-pub fn start_at(host: &[u8; HOST_BYTES], process: u8) -> u64
+fn start_at(host: &[u8; HOST_BYTES], process: u8) -> u64
     ensures { λ r. ⌜ r ≡ startIn (rowIn (now (host .entry))) process ⌝ }
 {
     let i = entry_of(process);
@@ -36,7 +36,7 @@ pub fn start_at(host: &[u8; HOST_BYTES], process: u8) -> u64
 }
 
 // The wait of a process, as a number.
-pub fn wait_at(host: &[u8; HOST_BYTES], process: u8) -> u64
+fn wait_at(host: &[u8; HOST_BYTES], process: u8) -> u64
     ensures { λ r. ⌜ r ≡ waitIn (rowIn (now (host .entry))) process ⌝ }
 {
     let i = entry_of(process);

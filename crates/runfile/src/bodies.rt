@@ -89,7 +89,7 @@ fn fixed(kind: u8) -> u8
 }
 
 // The bytes of one operation of an operate without a wait; 0 of another kind.
-fn each(kind: u8) -> usize
+fn operate_each(kind: u8) -> usize
     ensures { λ r. ⌜ r ≡ cond (eqb kind operateKind) operationBytes 0 ⌝ }
 {
     if kind == OPERATE { OPERATION_BYTES } else { 0 }
@@ -97,10 +97,10 @@ fn each(kind: u8) -> usize
 
 // The bytes of a body that is neither an operate with a wait nor a setting, by its kind and its number of operations. As a sum of
 // two choices between constants it needs no jump, which a choice that has the product in one of its arms does.
-fn size_of(kind: u8, number: u8) -> usize
+fn other_size(kind: u8, number: u8) -> usize
     ensures { λ r. ⌜ r ≡ fixedOf kind + cond (eqb kind operateKind) operationBytes 0 * number ⌝ }
 {
-    (fixed(kind) as usize) + each(kind) * (number as usize)
+    (fixed(kind) as usize) + operate_each(kind) * (number as usize)
 }
 
 // The number of operations or values in a body that has so many bytes before them: the last of these bytes.
@@ -146,7 +146,7 @@ pub fn size_at(file: &[u8], at: usize) -> usize
     match kind {
         OPERATE_WITHIN => counted(body, OPERATE_WITHIN_BYTES, OPERATION_BYTES),
         SET_ALL => counted(body, SET_ALL_BYTES, VALUE_BYTES),
-        _ => size_of(kind, number(body, OPERATE_BYTES)),
+        _ => other_size(kind, number(body, OPERATE_BYTES)),
     }
 }
 
@@ -242,6 +242,7 @@ pub fn handed_at(file: &[u8], at: usize) -> &[u8]
     }
     let body = &file[at..];
     let kind = body[0];
+    // As in `size_at`, the two rarer kinds are told apart first.
     if kind == SET_ALL {
         return items(body, SET_ALL_BYTES, VALUE_BYTES);
     }

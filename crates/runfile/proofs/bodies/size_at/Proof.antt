@@ -32,8 +32,8 @@ counted-requires-2 c κs = search needs
 number-requires : tie.Need-number-requires
 number-requires c κs = search needs
 
-size-of-requires : tie.Need-size-of-requires
-size-of-requires c κs = search needs
+other-size-requires : tie.Need-other-size-requires
+other-size-requires c κs = search needs
 
 returns-2 : tie.Need-returns-2
 unfolding fixedOf eachOf
@@ -53,7 +53,7 @@ returns-4 : tie.Need-returns-4
 returns-4 c =
     let m = c .before .before in
     let a = m .before .before .before .before .before .args in
-    rw (← to-end (a .file .now) (a .at), ← other-size (rest (a .file .now) (a .at)) (m .match .rest .1) (m .match .rest .0 .1), c .size-of .ensures, c .before .number .ensures)
+    rw (← to-end (a .file .now) (a .at), ← other-size (rest (a .file .now) (a .at)) (m .match .rest .1) (m .match .rest .0 .1), c .other-size .ensures, c .before .number .ensures)
 
 pub size-at-spec : {M : Type 1} → statement M
 size-at-spec =
@@ -67,7 +67,7 @@ size-at-spec =
     counted-requires
     counted-requires-2
     number-requires
-    size-of-requires
+    other-size-requires
     returns-2
     returns-3
     returns-4)

@@ -1,4 +1,4 @@
--- `runfile::bodies::size_of` meets its contract.
+-- `runfile::bodies::other_size` meets its contract.
 use Prim.Native.Nat.{ℕ, _*_, _≤_}
 use mathlib.Core.Bool.{Bool, true, false, cond}
 use native.Mathlib.Nat.{mul-le-mul-right}
@@ -7,8 +7,8 @@ use lib.Dec.{eqb}
 use borrow.Author.Needs.{needs}
 use Rattle.model.specs.Limits.{operationBytes}
 use Rattle.runfile.specs.Body.{operateKind}
-use Rattle.runfile.proofs.bodies.size_of.Statement.{statement}
-use Rattle.runfile.proofs.bodies.size_of.Tie as tie
+use Rattle.runfile.proofs.bodies.other_size.Statement.{statement}
+use Rattle.runfile.proofs.bodies.other_size.Tie as tie
 
 -- the bytes of each operation of a kind
 abbrev eachOf : ℕ → ℕ
@@ -27,17 +27,17 @@ fixed-requires c κs = search needs
 cast-result : tie.Need-cast-result
 cast-result c = search needs
 
-each-requires : tie.Need-each-requires
-each-requires c κs = search needs
+operate-each-requires : tie.Need-operate-each-requires
+operate-each-requires c κs = search needs
 
 mul-result : tie.Need-mul-result
-mul-result c = rw (c .each .ensures) (record { fits = omega (arith, product (c .before .before .args .kind) (c .before .before .args .number)) })
+mul-result c = rw (c .operate-each .ensures) (record { fits = omega (arith, product (c .before .before .args .kind) (c .before .before .args .number)) })
 
 add-result : tie.Need-add-result
-add-result c = rw (c .each .ensures) (record { fits = omega (arith, product (c .before .before .args .kind) (c .before .before .args .number), c .before .fixed .ok) })
+add-result c = rw (c .operate-each .ensures) (record { fits = omega (arith, product (c .before .before .args .kind) (c .before .before .args .number), c .before .fixed .ok) })
 
 returns : tie.Need-returns
-returns c = rw (c .each .ensures, c .before .fixed .ensures)
+returns c = rw (c .operate-each .ensures, c .before .fixed .ensures)
 
-pub size-of-spec : {M : Type 1} → statement M
-size-of-spec = tie.close (tie.spec fixed-requires cast-result each-requires mul-result add-result returns)
+pub other-size-spec : {M : Type 1} → statement M
+other-size-spec = tie.close (tie.spec fixed-requires cast-result operate-each-requires mul-result add-result returns)
