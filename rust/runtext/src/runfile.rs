@@ -17,10 +17,14 @@ pub fn size(event: &Event) -> usize {
 
 /// The file of these events; they must fit into `FILE_MAX` bytes.
 pub fn write(events: &[Event]) -> Vec<u8> {
-    let bodies: Vec<Vec<u8>> = events.iter().map(body::encode).collect();
+    of_bodies(&events.iter().map(body::encode).collect::<Vec<Vec<u8>>>())
+}
+
+/// The file of events with these bodies; they must fit into `FILE_MAX` bytes.
+pub fn of_bodies(bodies: &[Vec<u8>]) -> Vec<u8> {
     let mut file = (bodies.len() as u16).to_le_bytes().to_vec();
     let mut offset = HEAD + ENTRY * bodies.len();
-    for body in &bodies {
+    for body in bodies {
         file.extend_from_slice(&(offset as u16).to_le_bytes());
         file.extend_from_slice(&(body.len() as u16).to_le_bytes());
         offset += body.len();

@@ -47,7 +47,7 @@ impl Screen {
         let mut host = Host::new();
         let mut ordinary = second::Host::new(second::Rule::Quick);
         for event in run.events() {
-            through::run(&mut host, &Handed::from(event));
+            let _ = through::run(&mut host, &Handed::from(event));
             ordinary.handle(&event);
         }
         let set = |(identifier, set): (i32, &second::Set)| (identifier, u16::from(set.count));

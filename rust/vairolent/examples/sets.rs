@@ -70,7 +70,7 @@ fn replay(run: &RunFile, tally: &mut Tally) -> Result<(), String> {
     let mut host = Host::new();
     let mut ordinary = second::Host::new(second::Rule::Quick);
     for (position, event) in run.events().enumerate() {
-        through::run(&mut host, &Handed::from(event));
+        let _ = through::run(&mut host, &Handed::from(event));
         ordinary.handle(&event);
         let live: Vec<i32> = ordinary.live_sets().map(|(identifier, _)| identifier).collect();
         let others = live.iter().map(|identifier| identifier + 4);

@@ -9,8 +9,8 @@ use std::time::{Duration, Instant};
 
 use measured::Table;
 use second::RunFile;
-use through::{Handed, Told};
-use vairolent::Host;
+use through::Handed;
+use vairolent::{Host, Told};
 
 const TABLE: Table =
     Table { program: "speed", columns: &["library, ns", "ordinary Rust, ns", "Ratio"], cells };
@@ -52,7 +52,7 @@ fn best(events: &[Handed], rounds: u32) -> Option<[Duration; 2]> {
 fn by_library(host: &mut Host, handed: &Handed) -> i64 {
     match through::run(host, handed) {
         Told::Refused(error) => error.code().into(),
-        Told::Asleep(_) => -1,
+        Told::Asleep { .. } => -1,
         Told::Made(identifier) => identifier.into(),
         Told::Done(wakings) => (wakings.looks() + wakings.len()) as i64,
         Told::Seen(seen) => seen.value.into(),

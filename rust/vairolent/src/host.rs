@@ -6,6 +6,7 @@ use std::mem::size_of_val;
 use crate::answers::{Answer, Semaphore};
 use crate::archive::{self, Adjustments, List, Row, Told};
 use crate::error::Error;
+use crate::limits::{SEMAPHORES, SETS};
 use crate::operation::Operation;
 use crate::set::Set;
 use crate::wakings::Wakings;
@@ -470,6 +471,30 @@ impl Host {
         let seen = unsafe { archive::vairolent_query_set_in(row, adjustments, identifier) };
         Error::check(seen.code, None)?;
         Ok(Set::new(&seen))
+    }
+
+    /// The undo adjustments of a process, by slot and number: what its exit would add to each
+    /// semaphore. All are 0 for a process that is not 1 to 8.
+    ///
+    /// A set's slot is its identifier modulo 4.
+    ///
+    /// ```
+    /// use vairolent::{Host, Operation, ALL};
+    ///
+    /// let mut host = Host::new();
+    /// let set = host.create(2, ALL, ALL)?;
+    /// let _ = host.operate(3, set, &[Operation::new(1, 5).undo()])?;
+    /// assert_eq!(host.adjustments(3)[0][..2], [0, -5]);
+    /// assert_eq!(host.adjustments(4), [[0; 8]; 4]);
+    /// # Ok::<(), vairolent::Error>(())
+    /// ```
+    pub fn adjustments(&self, process: u8) -> [[i16; SEMAPHORES]; SETS] {
+        let mut rows = [[0; SEMAPHORES]; SETS];
+        let all = self.adjustments.chunks_exact(SETS * SEMAPHORES);
+        let own = all.zip(1..).find(|&(_, each)| each == process);
+        let own = own.into_iter().flat_map(|(own, _)| own.chunks_exact(SEMAPHORES));
+        own.zip(&mut rows).for_each(|(from, to)| to.copy_from_slice(from));
+        rows
     }
 }
 

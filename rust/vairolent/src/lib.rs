@@ -110,6 +110,7 @@ mod answers;
 mod archive;
 mod codes;
 mod error;
+mod event;
 mod host;
 mod limits;
 mod operation;
@@ -118,6 +119,7 @@ mod wakings;
 
 pub use answers::{Answer, Semaphore};
 pub use error::Error;
+pub use event::{Event, Told};
 pub use host::Host;
 pub use limits::{ALL, OPERATIONS, PROCESSES, SEMAPHORES, SETS, TIME_MAX, VALUE_MAX};
 pub use operation::Operation;

@@ -51,4 +51,28 @@ impl Operation {
     pub const fn undo(self) -> Operation {
         Operation { flags: self.flags | Operation::UNDO, ..self }
     }
+
+    /// The six bytes of a `struct sembuf`: number, amount and flags, little-endian.
+    pub const fn to_bytes(self) -> [u8; 6] {
+        let [number, amount, flags] =
+            [self.number.to_le_bytes(), self.amount.to_le_bytes(), self.flags.to_le_bytes()];
+        [number[0], number[1], amount[0], amount[1], flags[0], flags[1]]
+    }
+
+    /// The operation of six such bytes.
+    ///
+    /// ```
+    /// use vairolent::Operation;
+    ///
+    /// let take = Operation::new(2, -1).undo();
+    /// assert_eq!(take.to_bytes(), [2, 0, 255, 255, 0, 16]);
+    /// assert_eq!(Operation::from_bytes(take.to_bytes()), take);
+    /// ```
+    pub const fn from_bytes(six: [u8; 6]) -> Operation {
+        Operation {
+            number: u16::from_le_bytes([six[0], six[1]]),
+            amount: i16::from_le_bytes([six[2], six[3]]),
+            flags: u16::from_le_bytes([six[4], six[5]]),
+        }
+    }
 }

@@ -1,0 +1,94 @@
+//! vairolentd: serves semget, semop, semtimedop and semctl to local programs, by the proved service.
+//!
+//! Programs that run with the preload library send each call as a packet over a Unix socket. The
+//! daemon hands it to the one host that it holds, as one of the service's events, and answers; a call
+//! that sleeps is answered when an event ends it. What the rules say is the service's, libvairolent's.
+//! What Linux has beside them is the daemon's: keys (`get`), owners, modes and times (`sets`), real
+//! pids and which of the service's eight numbers stands for which process (`leases`), the end of a
+//! process (`exits`), time (`clock`). Every event is recorded (`record`), so that the proved program
+//! replay gives its answers once more.
+//!
+//! Data goes one way: packet, request (`message`), event (`get`, `operate`, `control`, `exits`), host
+//! and recording (`engine`), answer. One thread does it all (`server`).
+
+pub mod arguments;
+mod beginning;
+mod caller;
+mod clock;
+mod control;
+mod daemon;
+mod engine;
+mod errno;
+mod exits;
+mod get;
+mod known;
+mod leases;
+pub mod message;
+mod operate;
+mod piece;
+mod record;
+mod say;
+mod server;
+mod sets;
+mod status;
+pub mod system;
+
+use std::fs::{self, Permissions};
+use std::io::{self, Write};
+use std::os::unix::fs::{FileTypeExt, PermissionsExt};
+use std::path::Path;
+
+use daemon::Daemon;
+use message::{Reply, Request};
+use record::Record;
+use server::Server;
+use system::Socket;
+
+pub use say::say;
+
+/// Serves at a socket until a signal ends it, and records in a folder.
+pub fn serve(socket: &Path, folder: &Path, mode: u32, with_lines: bool) -> io::Result<()> {
+    let at = |path: &Path, error: io::Error| {
+        io::Error::new(error.kind(), format!("{}: {error}", path.display()))
+    };
+    system::raise_descriptors();
+    let record = Record::begin(folder, with_lines).map_err(|error| at(folder, error))?;
+    let listener = listen(socket, mode).map_err(|error| at(socket, error))?;
+    let mut server = Server::new(Daemon::new(record), listener)?;
+    say(format!("serving at {}, recording in {}", socket.display(), folder.display()));
+    let served = server.serve();
+    fs::remove_file(socket)?;
+    served
+}
+
+/// Listens where nobody listens; what an ended daemon left there is removed.
+fn listen(path: &Path, mode: u32) -> io::Result<Socket> {
+    if Socket::connect(path).is_ok() {
+        return Err(io::Error::new(io::ErrorKind::AddrInUse, "another daemon serves there"));
+    }
+    let socket = match Socket::listen(path) {
+        Err(error) if error.kind() == io::ErrorKind::AddrInUse => {
+            if !fs::symlink_metadata(path)?.file_type().is_socket() {
+                return Err(error);
+            }
+            fs::remove_file(path)?;
+            Socket::listen(path)?
+        }
+        listening => listening?,
+    };
+    fs::set_permissions(path, Permissions::from_mode(mode))?;
+    Ok(socket)
+}
+
+/// Asks a daemon for its state, and writes it.
+pub fn ask_status(path: &Path) -> io::Result<()> {
+    let no_daemon = |error| {
+        io::Error::new(io::ErrorKind::NotFound, format!("no daemon at {}: {error}", path.display()))
+    };
+    let socket = Socket::connect(path).map_err(no_daemon)?;
+    socket.send(&Request::status_packet())?;
+    let mut packet = vec![0; 65_536];
+    let length = socket.receive(&mut packet)?;
+    let text = packet.get(Reply::HEAD..length).ok_or(io::ErrorKind::UnexpectedEof)?;
+    io::stdout().write_all(text)
+}

@@ -1,0 +1,91 @@
+//! semop and semtimedop.
+
+use vairolent::{Event, Operation, Told, SEMAPHORES, SETS};
+
+use crate::caller::Caller;
+use crate::clock;
+use crate::daemon::{ConnectionId, Daemon, Sleeper};
+use crate::errno::{Errno, EACCES, ENOSPC};
+use crate::leases::SPARE;
+use crate::message::Reply;
+use crate::sets::{ALTER, READ};
+
+/// A call as it came.
+pub struct Call {
+    pub caller: Caller,
+    pub connection: ConnectionId,
+    pub identifier: i32,
+    /// In nanoseconds.
+    pub wait: Option<u64>,
+    pub operations: Vec<Operation>,
+}
+
+impl Daemon {
+    /// The answer, or nothing while the call sleeps.
+    pub fn operate(&mut self, call: Call) -> Option<Reply> {
+        let process = self.leases.choose(call.caller.process, |number| self.is_asleep(number));
+        let wait = call.wait.and_then(|wait| clock::wait(wait, self.begin_wait(wait)));
+        let (identifier, operations) = (call.identifier, &call.operations[..]);
+        let event = Event::Operate { process, identifier, wait, operations };
+        if let Err(errno) = self.admit(&call, process, &event) {
+            return Some(errno.into());
+        }
+        match self.engine.run(&event) {
+            Told::Refused(error) => Some(Reply::ended(error.code())),
+            Told::Asleep { .. } => {
+                self.put_to_sleep(process, call);
+                None
+            }
+            Told::Done(wakings) => {
+                self.operated(&call.caller, identifier, operations);
+                if process != SPARE {
+                    self.keep_or_release(process, call.caller.process);
+                }
+                self.wake(wakings);
+                Some(Reply::of(0))
+            }
+            _ => unreachable!("an operate sleeps, is done or refused"),
+        }
+    }
+
+    /// A wait begins at the time told last: so it is told now, if there is a wait.
+    fn begin_wait(&mut self, nanoseconds: u64) -> std::time::Duration {
+        if nanoseconds > 0 {
+            self.tell_time()
+        } else {
+            Default::default()
+        }
+    }
+
+    fn put_to_sleep(&mut self, number: u8, call: Call) {
+        let Call { caller, connection, identifier, operations, .. } = call;
+        self.sleepers.push(Sleeper { number, caller, connection, identifier, operations });
+        self.leases.take(number, caller.process);
+    }
+
+    /// May the call be handed in? What the service refuses before it judges comes first.
+    fn admit(&self, call: &Call, process: u8, event: &Event) -> Result<(), Errno> {
+        let denied = self.denied(call);
+        if !denied && process != SPARE {
+            return Ok(());
+        }
+        match self.engine.would(event) {
+            (Told::Refused(error), _) if error.position().is_none() => Ok(()),
+            _ if denied => Err(EACCES),
+            (Told::Asleep { .. }, _) => Err(ENOSPC),
+            (Told::Done(_), host) if host.adjustments(SPARE) != [[0; SEMAPHORES]; SETS] => {
+                Err(ENOSPC)
+            }
+            _ => Ok(()),
+        }
+    }
+
+    /// An amount other than 0 asks to alter, one of 0 to read.
+    fn denied(&self, call: &Call) -> bool {
+        let alters = |operation: &Operation| operation.amount != 0;
+        let asked = call.operations.iter().map(|each| if alters(each) { ALTER } else { READ });
+        let asked = asked.fold(0, |all, each| all | each);
+        let set = self.sets.find(call.identifier);
+        set.map_or(false, |set| set.permits(&call.caller, asked).is_err())
+    }
+}
