@@ -38,6 +38,7 @@ pub struct Control<'a> {
 impl Daemon {
     pub fn control(&mut self, caller: &Caller, call: &Control) -> Result<Reply, Errno> {
         match call.command {
+            _ if call.identifier < 0 => Err(EINVAL),
             command::INFO | command::SLOT_INFO => Ok(self.info(call.command)),
             command::STAT => {
                 let set = self.permitted(caller, call.identifier, READ)?;

@@ -24,12 +24,28 @@ impl Engine {
     /// Hands an event in and records it.
     pub fn run(&mut self, event: &Event) -> Told {
         let body = event.body().expect("no packet has so many operations or values");
-        if !self.record.fits(&body) {
+        self.make_room(&body);
+        self.hand_in(event, &body)
+    }
+
+    /// Hands an event in whose process is the one with this pid.
+    pub fn run_by(&mut self, process: u8, pid: i32, event: &Event) -> Told {
+        let body = event.body().expect("no packet has so many operations or values");
+        self.make_room(&body);
+        self.record.name(process, pid);
+        self.hand_in(event, &body)
+    }
+
+    fn make_room(&mut self, body: &[u8]) {
+        if !self.record.fits(body) {
             self.record.next(Beginning::of(&self.host, &self.known, BEGINNING_MAX));
         }
+    }
+
+    fn hand_in(&mut self, event: &Event, body: &[u8]) -> Told {
         let told = self.host.run(event);
         self.known.note(event, &told);
-        self.record.add(&body, || event.line(&told));
+        self.record.add(body, || event.line(&told));
         told
     }
 

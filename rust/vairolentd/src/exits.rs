@@ -23,6 +23,7 @@ impl Daemon {
                 self.settle(&Event::Exit { process: number });
             }
         }
+        self.leases.forget(process);
     }
 
     /// Moves the adjustments of one number to another that is to exit as well, by arrays that leave

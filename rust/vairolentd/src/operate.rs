@@ -23,14 +23,16 @@ pub struct Call {
 impl Daemon {
     /// The answer, or nothing while the call sleeps.
     pub fn operate(&mut self, call: Call) -> Option<Reply> {
-        let process = self.leases.choose(call.caller.process, |number| self.is_asleep(number));
+        let sleepers = &self.sleepers;
+        let asleep = |number| sleepers.iter().any(|sleeper| sleeper.number == number);
+        let process = self.leases.choose(call.caller.process, asleep);
         let wait = call.wait.and_then(|wait| clock::wait(wait, self.begin_wait(wait)));
         let (identifier, operations) = (call.identifier, &call.operations[..]);
         let event = Event::Operate { process, identifier, wait, operations };
         if let Err(errno) = self.admit(&call, process, &event) {
             return Some(errno.into());
         }
-        match self.engine.run(&event) {
+        match self.engine.run_by(process, call.caller.pid, &event) {
             Told::Refused(error) => Some(Reply::ended(error.code())),
             Told::Asleep { .. } => {
                 self.put_to_sleep(process, call);
@@ -59,8 +61,8 @@ impl Daemon {
 
     fn put_to_sleep(&mut self, number: u8, call: Call) {
         let Call { caller, connection, identifier, operations, .. } = call;
-        self.sleepers.push(Sleeper { number, caller, connection, identifier, operations });
         self.leases.take(number, caller.process);
+        self.sleepers.push(Sleeper { number, caller, connection, identifier, operations });
     }
 
     /// May the call be handed in? What the service refuses before it judges comes first.

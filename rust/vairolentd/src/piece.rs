@@ -2,7 +2,8 @@
 //!
 //! FILE.part has the bodies of its events, each behind its length in two bytes, and beside it the
 //! lines of these events grow, where they are wanted. When the piece is whole, FILE is a run file,
-//! and the lines are its listing. What the disk has no room for stays in memory until there is some.
+//! and the lines are its listing. A text says which process had which number. What the disk has no
+//! room for stays in memory until there is some.
 
 use std::fs::{self, File, OpenOptions};
 use std::io::{self, Write};
@@ -19,8 +20,8 @@ struct Growing {
 }
 
 impl Growing {
-    fn new(whole: &Path) -> Growing {
-        Growing { path: part_of(whole), file: None, bytes: Vec::new(), saved: 0 }
+    fn new(path: PathBuf) -> Growing {
+        Growing { path, file: None, bytes: Vec::new(), saved: 0 }
     }
 
     fn save(&mut self) -> io::Result<()> {
@@ -43,6 +44,7 @@ pub struct Piece {
     path: PathBuf,
     part: Growing,
     lines: Option<Growing>,
+    who: Growing,
     events: usize,
     /// Bytes of its run file.
     size: usize,
@@ -50,9 +52,10 @@ pub struct Piece {
 
 impl Piece {
     pub fn new(path: PathBuf, with_lines: bool) -> Piece {
-        let part = Growing::new(&path);
-        let lines = with_lines.then(|| Growing::new(&listing_of(&path)));
-        Piece { path, part, lines, events: 0, size: HEAD }
+        let part = Growing::new(part_of(&path));
+        let lines = with_lines.then(|| Growing::new(part_of(&listing_of(&path))));
+        let who = Growing::new(path.with_extension("who"));
+        Piece { path, part, lines, who, events: 0, size: HEAD }
     }
 
     pub fn path(&self) -> &Path {
@@ -78,9 +81,16 @@ impl Piece {
         self.size += ENTRY + body.len();
     }
 
+    /// Says who a process is, from the next event on.
+    pub fn name(&mut self, process: u8, who: &str) {
+        let line = format!("event {}: process {process} is {who}\n", self.events);
+        self.who.bytes.extend(line.into_bytes());
+    }
+
     /// Brings to the disk what is not there yet.
     pub fn save(&mut self) -> io::Result<()> {
         self.part.save()?;
+        self.who.save()?;
         self.lines.as_mut().map_or(Ok(()), Growing::save)
     }
 

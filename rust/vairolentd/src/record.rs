@@ -2,11 +2,14 @@
 //! long. The files of a folder are numbered from 000001 on; those that are there stay.
 //!
 //! NNNNNN.run begins with a fresh host, and `replay` gives its answers. NNNNNN.more goes on from the
-//! file before it, where no short beginning could be made.
+//! file before it, where no short beginning could be made. NNNNNN.who says which process had which
+//! number.
 
 use std::fs::{self, File};
 use std::io;
 use std::path::{Path, PathBuf};
+
+use vairolent::PROCESSES;
 
 use crate::beginning::Beginning;
 use crate::piece::{self, Piece};
@@ -23,6 +26,8 @@ pub struct Record {
     with_lines: bool,
     number: u32,
     piece: Piece,
+    /// Who the processes are, by their numbers from 1 on: pid and name.
+    who: [Option<(i32, String)>; PROCESSES],
     /// Full pieces that could not be made whole yet.
     waiting: Vec<Piece>,
     /// Did the disk fail the last time?
@@ -52,8 +57,8 @@ impl Record {
         number += 1;
         let mut piece = Piece::new(file(&folder, number, "run"), with_lines);
         piece.save()?;
-        let (waiting, failing) = (Vec::new(), false);
-        Ok(Record { folder, _lock: lock, with_lines, number, piece, waiting, failing })
+        let (who, waiting, failing) = (Default::default(), Vec::new(), false);
+        Ok(Record { folder, _lock: lock, with_lines, number, piece, who, waiting, failing })
     }
 
     /// Is there room in the present file for an event with this body?
@@ -67,6 +72,17 @@ impl Record {
             self.save();
         }
         self.waiting.len() >= WAITING_MAX
+    }
+
+    /// The process of the next event is this one.
+    pub fn name(&mut self, process: u8, pid: i32) {
+        let before = &mut self.who[usize::from(process) - 1];
+        if before.as_ref().map_or(true, |who| who.0 != pid) {
+            let comm = fs::read_to_string(format!("/proc/{pid}/comm")).unwrap_or_default();
+            let who = format!("pid {pid}, {}", comm.trim_end());
+            self.piece.name(process, &who);
+            *before = Some((pid, who));
+        }
     }
 
     pub fn add(&mut self, body: &[u8], line: impl FnOnce() -> String) {
@@ -83,6 +99,9 @@ impl Record {
             say(format!("{} goes on from the file before it", next.path().display()));
         }
         self.waiting.push(std::mem::replace(&mut self.piece, next));
+        for (process, who) in (1..).zip(&self.who) {
+            who.iter().for_each(|(_, who)| self.piece.name(process, who));
+        }
         for (body, line) in beginning.into_iter().flat_map(|beginning| beginning.events) {
             self.piece.add(&body, || line);
         }

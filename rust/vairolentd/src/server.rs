@@ -109,7 +109,8 @@ impl Server {
     fn welcome(&mut self, socket: Socket) -> io::Result<()> {
         let [pid, user, group] = socket.peer()?;
         let process = self.process(&socket, pid)?;
-        let caller = Caller { process, pid, user: user as u32, group: group as u32 };
+        let (user, group, groups) = (user as u32, group as u32, socket.peer_groups()?.into());
+        let caller = Caller { process, pid, user, group, groups };
         let its = self.connections.values().filter(|each| each.caller.process == process);
         if its.count() >= CONNECTIONS_MAX {
             let words = format!("process {pid} has {CONNECTIONS_MAX} connections already");
@@ -154,7 +155,7 @@ impl Server {
             Some(connection) => connection,
             None => return,
         };
-        let caller = connection.caller;
+        let caller = connection.caller.clone();
         let length = match connection.socket.receive(&mut packet) {
             Err(error) if error.kind() == io::ErrorKind::WouldBlock => return,
             Err(_) | Ok(0) => return self.close(id),
@@ -201,7 +202,7 @@ impl Server {
                 self.daemon.get(caller, key, count, flags).map(Reply::of)
             }
             Request::Operate { identifier, wait, operations } => {
-                let caller = *caller;
+                let caller = caller.clone();
                 let call = Call { caller, connection, identifier, wait, operations };
                 return self.daemon.operate(call);
             }

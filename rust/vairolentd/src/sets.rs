@@ -34,7 +34,7 @@ impl Set {
     fn class(&self, caller: &Caller) -> u32 {
         let shift = match caller {
             _ if caller.user == self.user => 6,
-            _ if caller.group == self.group => 3,
+            _ if caller.is_in(self.group) => 3,
             _ => 0,
         };
         self.mode >> shift & 7
@@ -121,7 +121,7 @@ mod tests {
     }
 
     fn caller(user: u32, group: u32) -> Caller {
-        Caller { process: ProcessId(1), pid: 1, user, group }
+        Caller { process: ProcessId(1), pid: 1, user, group, groups: [5].into() }
     }
 
     /// One class alone counts, the first that fits; user 0 passes.
@@ -137,6 +137,8 @@ mod tests {
                 assert!(set(0, 0, 0o777 & !(7 << 6)).permits(&owner, asked).is_err());
                 assert!(set(0, 0, 0o777 & !(7 << 3)).permits(&group, asked).is_err());
                 assert!(set(0, 0, 0).permits(&caller(0, 1), asked).is_ok());
+                let also = Set { group: 5, ..set(0, 0, bits << 3) };
+                assert_eq!(also.permits(&other, asked).is_ok(), granted);
             }
         }
     }

@@ -164,6 +164,23 @@ impl Socket {
         self.option(17)
     }
 
+    /// The groups that the other end was in besides its own.
+    pub fn peer_groups(&self) -> io::Result<Vec<u32>> {
+        const GROUPS_MAX: usize = 65_536;
+        let mut groups: Vec<u32> = Vec::new();
+        let mut length = 0;
+        // SAFETY: the first asks for the length alone, and the second has as much room as it says.
+        unsafe {
+            let descriptor = self.0.as_raw_fd();
+            if getsockopt(descriptor, 1, 59, ptr::null_mut(), &mut length) < 0 {
+                groups.resize((length as usize / 4).min(GROUPS_MAX), 0);
+                let start = groups.as_mut_ptr().cast();
+                checked(getsockopt(descriptor, 1, 59, start, &mut length))?;
+            }
+        }
+        Ok(groups)
+    }
+
     /// The process at the other end; where the kernel cannot tell it by the socket, by its pid.
     pub fn peer_process(&self, pid: i32) -> io::Result<ProcessHandle> {
         const PIDFD_OPEN: i64 = 434;

@@ -1,0 +1,26 @@
+/* A request to the daemon, and its answer. */
+#ifndef VAIROLENT_CALL_H
+#define VAIROLENT_CALL_H
+
+#include <stddef.h>
+#include <sys/sem.h>
+
+#include "protocol.h"
+
+enum { CALL_VALUES = 256 }; /* room for the values of a set */
+
+/* The answer and its data, of which kind the request knows. */
+struct reply {
+    struct answer answer;
+    union {
+        uint16_t values[CALL_VALUES];
+        struct status status;
+        struct seminfo limits;
+    } data;
+};
+
+/* Sends a request with its data, which may be the program's own memory: code EFAULT if it is not there. Only an operate
+ * sleeps. Returns how many bytes of data the reply has; the rest is zero. errno may change. */
+size_t call(struct request request, const void *data, size_t length, struct reply *reply);
+
+#endif

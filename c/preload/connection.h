@@ -1,0 +1,19 @@
+/* The thread's connection to the daemon. All but the first are for a thread whose signals are held. */
+#ifndef VAIROLENT_CONNECTION_H
+#define VAIROLENT_CONNECTION_H
+
+/* Once for the process: reads the daemon's address from the environment, and sees to it that a connection is closed
+ * where its thread ends, and in the child of a fork. */
+void connection_prepare(void);
+
+/* The descriptor of this thread's connection, made if there is none that can be used; -1 if the daemon cannot be
+ * reached. */
+int connection_get(void);
+
+/* Closes it, unless the program has done so. */
+void connection_close(void);
+
+/* The daemon went away during a call, or turns us away. */
+void connection_lost(void);
+
+#endif

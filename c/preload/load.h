@@ -1,0 +1,8 @@
+/* What is done once in a process: when the library is loaded, or at a call before that. */
+#ifndef VAIROLENT_LOAD_H
+#define VAIROLENT_LOAD_H
+
+/* For a thread whose signals are held. */
+void load(void);
+
+#endif

@@ -1,0 +1,70 @@
+//! More callers than the service has numbers: seven, and a spare one for those who need it for a
+//! moment only.
+
+use vairolent::Operation;
+
+use crate::client::{operate, Client, EAGAIN, EINTR, EINVAL, ENOSPC, FOREVER};
+use crate::daemon::Daemon;
+use crate::folder::Folder;
+
+const TAKE: Operation = Operation::new(0, -1);
+const GIVE: Operation = Operation::new(0, 1);
+
+/// Seven that sleep, each in its own connection.
+fn seven_asleep(folder: &Folder, client: &Client, set: i32) -> Vec<Client> {
+    let sleepers: Vec<Client> = (0..7).map(|_| Client::new(folder)).collect();
+    sleepers.iter().for_each(|sleeper| sleeper.begin(set, FOREVER, TAKE));
+    client.see_asleep(7);
+    sleepers
+}
+
+#[test]
+fn seven_sleep_and_the_spare_number_wakes_them() {
+    let folder = Folder::new();
+    let daemon = Daemon::start(&folder);
+    let client = Client::new(&folder);
+    let set = client.make(2);
+    let sleepers = seven_asleep(&folder, &client, set);
+
+    assert_eq!(client.operate(set, &[TAKE]), ENOSPC, "an eighth that would sleep");
+    assert_eq!(client.call(&operate(set, 50_000_000, &[TAKE])).code, ENOSPC, "for a while");
+    assert_eq!(client.operate(set, &[GIVE.undo()]), ENOSPC, "one that would hold an adjustment");
+    assert_eq!(client.operate(set, &[TAKE.nowait()]), EAGAIN);
+    assert_eq!(client.call(&operate(set, 0, &[TAKE])).code, EAGAIN, "no wait at all");
+    assert_eq!(client.operate(set + 4, &[TAKE]), EINVAL);
+    assert_eq!(client.operate(set, &[]), EINVAL);
+    assert!(!sleepers.iter().any(Client::is_answered));
+    assert_eq!(client.value(set, 0), 0, "nothing has happened");
+
+    let both = [Operation::new(1, 3).undo(), Operation::new(1, -3).undo()];
+    assert_eq!(client.operate(set, &both), 0, "its adjustments are 0 again");
+    assert_eq!(client.operate(set, &[Operation::new(0, 7)]), 0);
+    sleepers.iter().for_each(|sleeper| assert_eq!(sleeper.answer().code, 0));
+    assert_eq!(client.value(set, 0), 0, "each has taken one");
+    // What is ENOSPC is no event; the create, seven operates, six calls and two readings are. The
+    // call with a wait has told the time.
+    let events = daemon.replay(&folder);
+    assert!((16..=17).contains(&events), "{events}");
+}
+
+#[test]
+fn numbers_come_free_again() {
+    let folder = Folder::new();
+    let daemon = Daemon::start(&folder);
+    let client = Client::new(&folder);
+    let set = client.make(1);
+    for _ in 0..3 {
+        let sleepers = seven_asleep(&folder, &client, set);
+        assert_eq!(client.operate(set, &[GIVE.undo()]), ENOSPC);
+        sleepers[3].cancel();
+        assert_eq!(sleepers[3].answer().code, EINTR);
+        // One number is free: it is taken by an adjustment, and free when that is 0.
+        assert_eq!(client.operate(set, &[GIVE.undo(), GIVE]), 0);
+        assert_eq!(client.operate(set, &[TAKE.undo()]), EAGAIN.min(0), "the two have woken two");
+        client.see_asleep(4);
+        drop(sleepers);
+        client.see_asleep(0);
+        assert_eq!(client.control(set, 0, crate::client::SET_VALUE, &[0; 4]).code, 0);
+    }
+    assert!(daemon.replay(&folder) > 30);
+}
