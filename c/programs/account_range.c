@@ -45,26 +45,6 @@ static int sleeping_thread(int unused)
     return unused;
 }
 
-static void *takes_both(void *unused)
-{
-    struct sembuf both[] = {{0, -20000, SEM_UNDO}, {1, -1, 0}};
-    (void)unused;
-    return (void *)(intptr_t)code(semop(set, both, 2));
-}
-
-/* The same, taken while it sleeps. */
-static int taken_meanwhile(int unused)
-{
-    pthread_t sleeper = start(takes_both, NULL);
-    until_increase(set, 1, 1);
-    act("a thread takes", -20000);
-    must(operate(set, 0, 20000, 0));
-    must(operate(set, 1, 1, 0));
-    join("who slept", sleeper);
-    printf("values %d %d\n", get_value(set, 0), get_value(set, 1));
-    return unused;
-}
-
 /* Taken while another thread sleeps and given back while it does not, again and again: nothing adds up. */
 static int again(int unused)
 {
@@ -104,7 +84,6 @@ int main(void)
     set = make(3);
     process("threads", 0, threads);
     process("a sleeping thread", 20000, sleeping_thread);
-    process("taken meanwhile", 20000, taken_meanwhile);
     process("again", 20000, again);
     process("even", 0, even);
     remove_set(set);

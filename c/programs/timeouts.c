@@ -101,7 +101,7 @@ static int end_in_order(void)
     return right == SLEEPERS;
 }
 
-/* A busy machine may let one that has ended run late: once of some times is enough. One with a longer wait sleeps on. */
+/* A busy machine may let one that has ended run late: one good try is enough. One with a longer wait sleeps on. */
 static void several(void)
 {
     int tries = 0;

@@ -7,6 +7,7 @@ use std::path::PathBuf;
 pub const USAGE: &str = "\
 usage: vairolentd --socket PATH --record FOLDER [--mode OCTAL] [--answers]
        vairolentd --status [--socket PATH]
+       vairolentd --recover FOLDER
 Serves System V semaphores, by the proved service, to local programs that run with
 libvairolent-preload.so; tools/with-vairolent starts both.
   --socket PATH    where it listens, and with --status, which daemon is asked; else VAIROLENT_SOCKET
@@ -14,12 +15,14 @@ libvairolent-preload.so; tools/with-vairolent starts both.
   --mode OCTAL     who may connect: the mode of the socket, 600 unless given
   --answers        writes beside each run file the lines of its answers, for a comparison with replay
   --status         lists sets, semaphores and sleepers as ipcs -s does
+  --recover FOLDER makes whole what a killed daemon left there; serving does that first, too
 It ends with SIGTERM, SIGINT or SIGHUP, and makes its last run file whole.";
 
 #[derive(Debug, PartialEq, Eq)]
 pub enum Arguments {
     Serve { socket: PathBuf, folder: PathBuf, mode: u32, with_lines: bool },
     Status { socket: PathBuf },
+    Recover { folder: PathBuf },
     Help,
 }
 
@@ -43,6 +46,7 @@ impl Arguments {
                 "--mode" => mode = read_mode(&value()?.to_string_lossy())?,
                 "--answers" => with_lines = true,
                 "--status" => status = true,
+                "--recover" => return Ok(Arguments::Recover { folder: value()?.into() }),
                 "--help" => return Ok(Arguments::Help),
                 _ => return Err(format!("there is no {name}")),
             }
@@ -78,6 +82,7 @@ mod tests {
         assert_eq!(of("--socket s --record r"), serve(0o600, false));
         assert_eq!(of("--record r --mode 666 --answers --socket s"), serve(0o666, true));
         assert_eq!(of("--status --socket s"), Ok(Arguments::Status { socket: "s".into() }));
+        assert_eq!(of("--recover r"), Ok(Arguments::Recover { folder: "r".into() }));
         assert_eq!(of("--help"), Ok(Arguments::Help));
     }
 

@@ -73,6 +73,7 @@ impl Daemon {
             }
             self.answers.push((sleeper.connection, Reply::ended(waking.ending.code())));
             self.keep_or_release(sleeper.number, sleeper.caller.process);
+            self.unite(sleeper.caller.process);
         }
     }
 

@@ -17,3 +17,5 @@ pub const EEXIST: Errno = Errno(17);
 pub const EINVAL: Errno = Errno(22);
 /// No number, or no room to record in.
 pub const ENOSPC: Errno = Errno(28);
+/// The adjustments of a process together would leave their range.
+pub const ERANGE: Errno = Errno(34);

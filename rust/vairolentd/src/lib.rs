@@ -4,13 +4,14 @@
 //! daemon hands it to the one host that it holds, as one of the service's events, and answers; a call
 //! that sleeps is answered when an event ends it. What the rules say is the service's, libvairolent's.
 //! What Linux has beside them is the daemon's: keys (`get`), owners, modes and times (`sets`), real
-//! pids and which of the service's eight numbers stands for which process (`leases`), the end of a
-//! process (`exits`), time (`clock`). Every event is recorded (`record`), so that the proved program
+//! pids and which of the service's eight numbers stands for which process (`leases`, `accounts`), the
+//! end of a process (`exits`), time (`clock`). Every event is recorded (`record`), so that the proved program
 //! replay gives its answers once more.
 //!
 //! Data goes one way: packet, request (`message`), event (`get`, `operate`, `control`, `exits`), host
 //! and recording (`engine`), answer. One thread does it all (`server`).
 
+mod accounts;
 pub mod arguments;
 mod beginning;
 mod caller;
@@ -42,8 +43,9 @@ use daemon::Daemon;
 use message::{Reply, Request};
 use record::Record;
 use server::Server;
-use system::Socket;
+use system::{Endings, Socket};
 
+pub use record::recover;
 pub use say::say;
 
 /// Serves at a socket until a signal ends it, and records in a folder.
@@ -51,32 +53,32 @@ pub fn serve(socket: &Path, folder: &Path, mode: u32, with_lines: bool) -> io::R
     let at = |path: &Path, error: io::Error| {
         io::Error::new(error.kind(), format!("{}: {error}", path.display()))
     };
+    let endings = Endings::new()?;
     system::raise_descriptors();
     let record = Record::begin(folder, with_lines).map_err(|error| at(folder, error))?;
     let listener = listen(socket, mode).map_err(|error| at(socket, error))?;
-    let mut server = Server::new(Daemon::new(record), listener)?;
+    let mut server = Server::new(Daemon::new(record), listener, endings)?;
     say(format!("serving at {}, recording in {}", socket.display(), folder.display()));
     let served = server.serve();
     fs::remove_file(socket)?;
     served
 }
 
-/// Listens where nobody listens; what an ended daemon left there is removed.
+/// Listens where nobody listens; what an ended daemon left there is replaced. Who sees the socket can
+/// connect to it, and it has its mode.
 fn listen(path: &Path, mode: u32) -> io::Result<Socket> {
-    if Socket::connect(path).is_ok() {
-        return Err(io::Error::new(io::ErrorKind::AddrInUse, "another daemon serves there"));
+    let in_use = |words| Err(io::Error::new(io::ErrorKind::AddrInUse, words));
+    match fs::symlink_metadata(path) {
+        Ok(there) if !there.file_type().is_socket() => return in_use("it is no socket"),
+        Ok(_) if Socket::connect(path).is_ok() => return in_use("another daemon serves there"),
+        _ => {}
     }
-    let socket = match Socket::listen(path) {
-        Err(error) if error.kind() == io::ErrorKind::AddrInUse => {
-            if !fs::symlink_metadata(path)?.file_type().is_socket() {
-                return Err(error);
-            }
-            fs::remove_file(path)?;
-            Socket::listen(path)?
-        }
-        listening => listening?,
-    };
-    fs::set_permissions(path, Permissions::from_mode(mode))?;
+    let mut new = path.as_os_str().to_owned();
+    new.push(format!(".{}", std::process::id()));
+    let new = Path::new(&new);
+    let socket = Socket::listen(new)?;
+    fs::set_permissions(new, Permissions::from_mode(mode))?;
+    fs::rename(new, path)?;
     Ok(socket)
 }
 

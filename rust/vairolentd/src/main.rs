@@ -4,12 +4,13 @@ use std::io::{self, Write};
 use std::process::ExitCode;
 
 use vairolentd::arguments::{Arguments, USAGE};
-use vairolentd::{ask_status, say, serve};
+use vairolentd::{ask_status, recover, say, serve};
 
 fn main() -> ExitCode {
     let done = match Arguments::read() {
         Ok(Arguments::Help) => writeln!(io::stdout(), "{USAGE}"),
         Ok(Arguments::Status { socket }) => ask_status(&socket),
+        Ok(Arguments::Recover { folder }) => recover(&folder).map(|_| ()),
         Ok(Arguments::Serve { socket, folder, mode, with_lines }) => {
             serve(&socket, &folder, mode, with_lines)
         }

@@ -1,11 +1,11 @@
 //! semop and semtimedop.
 
-use vairolent::{Event, Operation, Told, SEMAPHORES, SETS};
+use vairolent::{Event, Host, Operation, Told, SEMAPHORES, SETS, VALUE_MAX};
 
 use crate::caller::Caller;
 use crate::clock;
 use crate::daemon::{ConnectionId, Daemon, Sleeper};
-use crate::errno::{Errno, EACCES, ENOSPC};
+use crate::errno::{Errno, EACCES, ENOSPC, ERANGE};
 use crate::leases::SPARE;
 use crate::message::Reply;
 use crate::sets::{ALTER, READ};
@@ -68,18 +68,34 @@ impl Daemon {
     /// May the call be handed in? What the service refuses before it judges comes first.
     fn admit(&self, call: &Call, process: u8, event: &Event) -> Result<(), Errno> {
         let denied = self.denied(call);
-        if !denied && process != SPARE {
+        if !denied && process != SPARE && self.other_parts(call, process).next().is_none() {
             return Ok(());
         }
         match self.engine.would(event) {
             (Told::Refused(error), _) if error.position().is_none() => Ok(()),
             _ if denied => Err(EACCES),
-            (Told::Asleep { .. }, _) => Err(ENOSPC),
-            (Told::Done(_), host) if host.adjustments(SPARE) != [[0; SEMAPHORES]; SETS] => {
-                Err(ENOSPC)
-            }
+            (Told::Asleep { .. }, _) if process == SPARE => Err(ENOSPC),
+            (Told::Done(_), after) if process == SPARE && holds(&after) => Err(ENOSPC),
+            (Told::Done(_), after) if self.leaves_range(call, process, &after) => Err(ERANGE),
             _ => Ok(()),
         }
+    }
+
+    /// The caller's numbers besides this one: where threads sleep, its account is in parts.
+    fn other_parts<'a>(&'a self, call: &Call, process: u8) -> impl Iterator<Item = u8> + 'a {
+        self.leases.of(call.caller.process).filter(move |&number| number != process)
+    }
+
+    /// Would the parts of the caller's account together leave the range that one has?
+    fn leaves_range(&self, call: &Call, process: u8, after: &Host) -> bool {
+        let mut sums = [0; SETS * SEMAPHORES];
+        for number in self.other_parts(call, process).chain([process]) {
+            let part = after.adjustments(number);
+            sums.iter_mut()
+                .zip(part.iter().flatten())
+                .for_each(|(sum, each)| *sum += i32::from(*each));
+        }
+        sums.iter().any(|sum| sum.abs() > i32::from(VALUE_MAX))
     }
 
     /// An amount other than 0 asks to alter, one of 0 to read.
@@ -90,4 +106,9 @@ impl Daemon {
         let set = self.sets.find(call.identifier);
         set.map_or(false, |set| set.permits(&call.caller, asked).is_err())
     }
+}
+
+/// Does the spare number hold adjustments?
+fn holds(host: &Host) -> bool {
+    host.adjustments(SPARE) != [[0; SEMAPHORES]; SETS]
 }

@@ -39,22 +39,8 @@ impl Record {
     /// made whole first.
     pub fn begin(folder: &Path, with_lines: bool) -> io::Result<Record> {
         fs::create_dir_all(folder)?;
-        let lock = File::open(folder)?;
-        system::lock(&lock)?;
-        let mut number = 0;
-        for entry in fs::read_dir(folder)? {
-            let path = entry?.path();
-            let digits = path.file_name().and_then(|name| name.to_str()?.split('.').next());
-            number = number.max(digits.and_then(|digits| digits.parse().ok()).unwrap_or(0));
-            let whole = path.with_extension("");
-            let is_part = path.extension().map_or(false, |extension| extension == "part");
-            if is_part && whole.extension().map_or(false, |extension| extension != "lines") {
-                piece::recover(&whole)?;
-                say(format!("made {} whole, which was left growing", whole.display()));
-            }
-        }
-        let folder = folder.to_path_buf();
-        number += 1;
+        let (lock, last) = recover(folder)?;
+        let (folder, number) = (folder.to_path_buf(), last + 1);
         let mut piece = Piece::new(file(&folder, number, "run"), with_lines);
         piece.save()?;
         let (who, waiting, failing) = (Default::default(), Vec::new(), false);
@@ -142,6 +128,25 @@ impl Record {
         let trouble = if self.failing { ", kept in memory: the disk fails" } else { "" };
         format!("recorded: {events} events in {path}{trouble}")
     }
+}
+
+/// Makes whole what a killed daemon left in a folder. The folder, locked, and the last number there.
+pub fn recover(folder: &Path) -> io::Result<(File, u32)> {
+    let lock = File::open(folder)?;
+    system::lock(&lock)?;
+    let mut last = 0;
+    for entry in fs::read_dir(folder)? {
+        let path = entry?.path();
+        let digits = path.file_name().and_then(|name| name.to_str()?.split('.').next());
+        last = last.max(digits.and_then(|digits| digits.parse().ok()).unwrap_or(0));
+        let whole = path.with_extension("");
+        let ends = |path: &Path, with: &str| path.extension().map_or(false, |end| end == with);
+        if ends(&path, "part") && (ends(&whole, "run") || ends(&whole, "more")) {
+            piece::recover(&whole)?;
+            say(format!("{} was left growing, and is whole now", whole.display()));
+        }
+    }
+    Ok((lock, last))
 }
 
 fn file(folder: &Path, number: u32, extension: &str) -> PathBuf {

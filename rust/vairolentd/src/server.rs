@@ -45,8 +45,8 @@ pub struct Server {
 }
 
 impl Server {
-    pub fn new(daemon: Daemon, listener: Socket) -> io::Result<Server> {
-        let (poll, endings) = (Poll::new()?, Endings::new()?);
+    pub fn new(daemon: Daemon, listener: Socket, endings: Endings) -> io::Result<Server> {
+        let poll = Poll::new()?;
         poll.watch(&listener, LISTENER)?;
         poll.watch(&endings, ENDINGS)?;
         Ok(Server {
@@ -108,13 +108,17 @@ impl Server {
 
     fn welcome(&mut self, socket: Socket) -> io::Result<()> {
         let [pid, user, group] = socket.peer()?;
+        if pid <= 0 {
+            return Err(refused("its process is of another pid namespace".to_string()));
+        }
         let process = self.process(&socket, pid)?;
         let (user, group, groups) = (user as u32, group as u32, socket.peer_groups()?.into());
         let caller = Caller { process, pid, user, group, groups };
         let its = self.connections.values().filter(|each| each.caller.process == process);
         if its.count() >= CONNECTIONS_MAX {
-            let words = format!("process {pid} has {CONNECTIONS_MAX} connections already");
-            return Err(io::Error::new(io::ErrorKind::Other, words));
+            return Err(refused(format!(
+                "process {pid} has {CONNECTIONS_MAX} connections already"
+            )));
         }
         let connection = self.number();
         self.poll.watch(&socket, connection)?;
@@ -255,6 +259,10 @@ impl Server {
             self.processes.remove(&process);
         }
     }
+}
+
+fn refused(words: String) -> io::Error {
+    io::Error::new(io::ErrorKind::Other, words)
 }
 
 fn reserve() -> Option<File> {
