@@ -1,5 +1,6 @@
 //! The events, called as a program calls them.
 
+mod bodies;
 mod clock;
 mod endings;
 mod hosts;

@@ -7,7 +7,7 @@ use std::time::Duration;
 
 use vairolent::Operation;
 
-use crate::client::{long_event, operate, packet, Client, EINTR, FOREVER, GET_INCREASE};
+use crate::client::{long_event, operate, packet, Client, EINTR, EINVAL, FOREVER, GET_INCREASE};
 use crate::daemon::{until, Daemon};
 use crate::folder::Folder;
 use crate::process::Process;
@@ -77,10 +77,10 @@ fn versions_and_kinds_that_there_are_not() {
     }
     assert!(!is_answered(&folder, &[0; 70_000]));
     witness.is_served();
+    daemon.hear("a packet that is too long");
     let said = daemon.said();
     assert_eq!(said.matches("a request of another version").count(), 4, "{said}");
     assert_eq!(said.matches("a request that there is not").count(), 4, "{said}");
-    assert_eq!(said.matches("a packet that is too long").count(), 1, "{said}");
     assert_eq!(daemon.replay(&folder), 5);
 }
 
@@ -120,7 +120,7 @@ fn send_garbage(folder: &Folder, seed: u64, packets: usize) {
                 Ok(()) => break,
             }
         }
-        while random.below(2) == 0 && client.is_answered() {
+        if random.below(8) > 0 && client.is_answered_within(Duration::from_millis(1)) {
             let _ = client.answer_or_end();
         }
     }
@@ -133,15 +133,16 @@ fn garbage_from_several() {
     let witness = Witness::new(&folder);
     assert_eq!(witness.set, 0);
     thread::scope(|scope| {
-        let senders: Vec<_> =
-            (1..=4).map(|seed| scope.spawn(|| send_garbage(&folder, seed, 1_500))).collect();
+        let folder = &folder;
+        let send = |seed| scope.spawn(move || send_garbage(folder, seed, 1_500));
+        let senders: Vec<_> = (1..=4).map(send).collect();
         let mut served = 0;
         while senders.iter().any(|sender| !sender.is_finished()) || served < 20 {
             witness.is_served();
             served += 1;
         }
     });
-    assert!(daemon.said().contains("its connection is closed"));
+    daemon.hear("its connection is closed");
     let events = daemon.replay(&folder);
     assert!(events > 2_000, "{events}");
 }
@@ -160,38 +161,11 @@ fn a_call_while_another_sleeps() {
     other.see_asleep(0);
     assert_eq!(other.control(set, 0, GET_INCREASE, &[]).value, 0);
     assert_eq!(other.value(set, 0), 0);
-    assert!(daemon.said().contains("a call while another sleeps; its connection is closed"));
+    daemon.hear("a call while another sleeps; its connection is closed");
     assert_eq!(daemon.replay(&folder), 5);
     let run = &runs::all(&folder.record())[0];
     assert_eq!(run.bodies()[2], [5, 1], "a signal for number 1");
     assert!(run.lines.contains(&format!("2 0 0 0 1={EINTR}\n")), "{}", run.lines);
-}
-
-/// The daemon is busy with a packet of no length until the wait of one is over, and finds that out by
-/// a packet of another that it refuses. That one is answered all the same.
-#[test]
-fn an_end_that_is_found_while_another_is_refused() {
-    let folder = Folder::new();
-    let mut command = folder.command();
-    let (reader, writer) = small_pipe();
-    let filler = writer.try_clone().expect("a copy");
-    command.stderr(writer);
-    let daemon = Quiet(command.spawn().expect("started"));
-    until("a socket", || Client::at(&folder.socket()).is_ok());
-    let clients: Vec<Client> = (0..4).map(|_| Client::new(&folder)).collect();
-    let set = clients[0].make(1);
-    clients[1].begin(set, FOREVER, Operation::new(0, -1));
-    clients[2].begin(set, 50_000_000, Operation::new(0, -1));
-    clients[0].see_asleep(2);
-    fill(filler);
-    stop_and_go(&daemon, || {
-        clients[3].send(&[0]).expect("sent");
-        clients[1].send(&packet(6, [0; 3], 0, &[])).expect("sent");
-    });
-    thread::sleep(Duration::from_millis(60));
-    drain(reader);
-    assert_eq!(clients[1].answer_or_end(), None);
-    until("the answer of the wait that is over", || clients[2].is_answered());
 }
 
 /// Its answers stay in the socket until there is no more room.
@@ -285,11 +259,12 @@ fn no_descriptors_left() {
     let witness = Witness::new(&folder);
     let mut clients = fill_up(&folder);
     daemon.hear("a connection is refused: Too many open files");
+    let most = daemon.descriptors() + 1;
     clients.pop_front();
-    until("two are left", || daemon.descriptors() == 30);
+    until("two are left", || daemon.descriptors() == most - 2);
     // One for its connection, and one for itself.
     let _process = Process::with(folder.socket(), vec![packet(6, [0; 3], 0, &[])]);
-    until("none is left", || daemon.descriptors() == 32);
+    until("none is left", || daemon.descriptors() == most);
     (0..5).for_each(|_| assert!(!is_answered(&folder, &packet(6, [0; 3], 0, &[]))));
     witness.is_served();
     assert!(clients.iter().all(|client| client.status().contains("Semaphore Arrays")));
@@ -298,10 +273,10 @@ fn no_descriptors_left() {
     thread::sleep(Duration::from_millis(100));
     assert_eq!(daemon.work(), before, "it waits");
     // The next file of the recording cannot be opened, until there are descriptors.
-    witness.client.repeat(200, &long_event(witness.set), 22);
+    witness.client.repeat(200, &long_event(witness.set), EINVAL);
     daemon.hear("the recording cannot be written (Too many open files");
     drop(clients);
-    until("descriptors", || daemon.descriptors() < 20);
+    until("descriptors", || daemon.descriptors() < most - 10);
     witness.is_served();
     daemon.hear("the recording is written again, and whole");
     assert!(daemon.replay(&folder) >= 209);

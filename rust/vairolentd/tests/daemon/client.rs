@@ -2,6 +2,7 @@
 
 use std::io;
 use std::path::Path;
+use std::time::Duration;
 
 use vairolent::Operation;
 use vairolentd::system::{Poll, Readable, Socket};
@@ -70,8 +71,7 @@ impl Client {
         let socket = Socket::connect(path)?;
         let time = [LONG.as_secs() as i64, 0];
         // SAFETY: the time is as long as it says.
-        let set =
-            unsafe { setsockopt(socket.descriptor(), SOCKET, TIME_TO_RECEIVE, &time, 16) };
+        let set = unsafe { setsockopt(socket.descriptor(), SOCKET, TIME_TO_RECEIVE, &time, 16) };
         assert_eq!(set, 0);
         Ok(Client(socket))
     }
@@ -97,9 +97,14 @@ impl Client {
     }
 
     pub fn is_answered(&self) -> bool {
+        self.is_answered_within(Duration::ZERO)
+    }
+
+    /// Is there an answer, or the end of the connection?
+    pub fn is_answered_within(&self, time: Duration) -> bool {
         let poll = Poll::new().expect("a poll");
         poll.watch(&self.0, 0).expect("watched");
-        !poll.wait(Some(std::time::Duration::ZERO)).expect("waited").is_empty()
+        !poll.wait(Some(time)).expect("waited").is_empty()
     }
 
     pub fn call(&self, packet: &[u8]) -> Answer {

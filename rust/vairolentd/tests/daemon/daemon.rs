@@ -1,9 +1,10 @@
 //! A daemon that runs.
 
-use std::fs;
-use std::io::{BufRead, BufReader};
+use std::fs::{self, OpenOptions};
+use std::io::{BufRead, BufReader, Write};
+use std::os::unix::fs::OpenOptionsExt;
 use std::process::{Child, Command};
-use std::sync::{Arc, Mutex};
+use std::sync::{Arc, Mutex, MutexGuard};
 use std::thread::{self, JoinHandle};
 use std::time::{Duration, Instant};
 
@@ -14,6 +15,8 @@ use crate::runs;
 pub const LONG: Duration = Duration::from_secs(10);
 
 pub const SIGTERM: i32 = 15;
+pub const SIGCONT: i32 = 18;
+pub const SIGSTOP: i32 = 19;
 
 extern "C" {
     fn kill(process: i32, signal: i32) -> i32;
@@ -65,6 +68,21 @@ impl Daemon {
         until(words, || self.said().contains(words));
     }
 
+    /// As long as this is kept, nobody listens: the daemon waits where it says something.
+    pub fn hush(&self) -> MutexGuard<'_, String> {
+        const NONBLOCK: i32 = 0o4000;
+        let guard = self.said.lock().expect("whole");
+        let mut options = OpenOptions::new();
+        let path = format!("/proc/{}/fd/2", self.pid());
+        let mut pipe = options.write(true).custom_flags(NONBLOCK).open(path).expect("its pipe");
+        // The listener takes some of it once.
+        for _ in 0..2 {
+            thread::sleep(Duration::from_millis(5));
+            while pipe.write(b"\n").is_ok() {}
+        }
+        guard
+    }
+
     pub fn pid(&self) -> i32 {
         self.child.id() as i32
     }
@@ -72,6 +90,14 @@ impl Daemon {
     pub fn signal(&self, signal: i32) {
         // SAFETY: it takes two numbers.
         assert_eq!(unsafe { kill(self.pid(), signal) }, 0);
+    }
+
+    /// What happens while it stands still, it finds at once.
+    pub fn standing_still(&self, happens: impl FnOnce()) {
+        self.signal(SIGSTOP);
+        until("it stands still", || self.shown("stat").contains(") T "));
+        happens();
+        self.signal(SIGCONT);
     }
 
     /// Ends it as one should: its status, and all that it has said.

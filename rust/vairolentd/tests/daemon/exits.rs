@@ -7,9 +7,6 @@ use crate::daemon::{until, Daemon};
 use crate::folder::Folder;
 use crate::process::Process;
 
-const SIGSTOP: i32 = 19;
-const SIGCONT: i32 = 18;
-
 /// Two semaphores of 5 and 0, and a process that has taken 2 of the first with SEM_UNDO and sleeps on
 /// the second, in this order or the other. How it ends is told by the function.
 fn gives_back(sleeps_first: bool, end: impl Fn(&Daemon, &mut Process)) {
@@ -31,7 +28,7 @@ fn gives_back(sleeps_first: bool, end: impl Fn(&Daemon, &mut Process)) {
     end(&daemon, &mut process);
     client.see_asleep(0);
     until("given back", || client.value(set, 0) == 5);
-    assert!(daemon.replay(&folder) >= 8);
+    assert!(daemon.replay(&folder) >= 7);
 }
 
 #[test]
@@ -44,9 +41,7 @@ fn a_killed_process_gives_back() {
 #[test]
 fn a_process_that_ended_meanwhile_gives_back() {
     let meanwhile = |daemon: &Daemon, process: &mut Process| {
-        daemon.signal(SIGSTOP);
-        process.kill();
-        daemon.signal(SIGCONT);
+        daemon.standing_still(|| process.kill());
     };
     gives_back(false, meanwhile);
     gives_back(true, meanwhile);

@@ -6,6 +6,7 @@ use vairolent::Operation;
 use crate::client::{operate, Client, EAGAIN, EINTR, EINVAL, ENOSPC, FOREVER};
 use crate::daemon::Daemon;
 use crate::folder::Folder;
+use crate::process::Process;
 
 const TAKE: Operation = Operation::new(0, -1);
 const GIVE: Operation = Operation::new(0, 1);
@@ -60,11 +61,31 @@ fn numbers_come_free_again() {
         assert_eq!(sleepers[3].answer().code, EINTR);
         // One number is free: it is taken by an adjustment, and free when that is 0.
         assert_eq!(client.operate(set, &[GIVE.undo(), GIVE]), 0);
-        assert_eq!(client.operate(set, &[TAKE.undo()]), EAGAIN.min(0), "the two have woken two");
+        assert_eq!([&sleepers[0], &sleepers[1]].map(|woken| woken.answer().code), [0, 0]);
+        assert_eq!(client.operate(set, &[GIVE, TAKE.undo()]), 0);
         client.see_asleep(4);
         drop(sleepers);
         client.see_asleep(0);
-        assert_eq!(client.control(set, 0, crate::client::SET_VALUE, &[0; 4]).code, 0);
     }
     assert!(daemon.replay(&folder) > 30);
+}
+
+/// What two threads have taken and given comes to nothing once they are awake: then their process
+/// needs no number, and seven others can sleep.
+#[test]
+fn an_account_of_nothing_keeps_no_number() {
+    let folder = Folder::new();
+    let daemon = Daemon::start(&folder);
+    let [client, sleeper] = [(); 2].map(|()| Client::new(&folder));
+    let set = client.make(3);
+    let takes = [Operation::new(1, -1), Operation::new(0, -2).undo()];
+    sleeper.send(&operate(set, FOREVER, &takes)).expect("sent");
+    client.see_asleep(1);
+    assert_eq!(client.operate(set, &[Operation::new(0, 2).undo()]), 0);
+    assert_eq!(client.operate(set, &[Operation::new(1, 1)]), 0);
+    assert_eq!(sleeper.answer().code, 0);
+    let others = vec![operate(set, FOREVER, &[Operation::new(2, -1)]); 7];
+    let _process = Process::with(folder.socket(), others);
+    client.see_asleep(7);
+    assert!(daemon.replay(&folder) >= 11);
 }

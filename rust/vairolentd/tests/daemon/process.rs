@@ -31,8 +31,8 @@ impl Process {
         Process(command.spawn().expect("started, and its packets are sent"))
     }
 
-    pub fn pid(&self) -> i32 {
-        self.0.id() as i32
+    pub fn pid(&self) -> u32 {
+        self.0.id()
     }
 
     pub fn kill(&mut self) {

@@ -16,7 +16,8 @@ impl Run {
     pub fn read(path: &Path) -> Run {
         let bytes = fs::read(path).expect("a run file");
         assert!(bytes.len() <= FILE_MAX, "{}", path.display());
-        let lines = fs::read_to_string(path.with_extension("lines")).expect("its lines");
+        // Who is killed right at the beginning of a file has no lines yet.
+        let lines = fs::read_to_string(path.with_extension("lines")).unwrap_or_default();
         let name = path.file_name().expect("a name").to_string_lossy().into_owned();
         Run { name, bytes, lines }
     }
