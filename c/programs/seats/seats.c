@@ -1,8 +1,8 @@
 /* Three seats for six processes that are killed at random: no seat is lost, and none has two holders.
  * usage: seats KILLS [SEED]
- * Workers take seats with SEM_UNDO, note that in shared memory, stay a moment, and give them back. One of them is killed at
- * any moment, reaped, and a new one begins; now and then all are killed, and then all seats are free at once. The last line is
- * 'KILLS kills, 3 seats', with status 0, or what was wrong, with status 1. */
+ * Workers take seats with SEM_UNDO, note that in shared memory, stay a moment, and give them back. One of them is
+ * killed at any moment, reaped, and a new one begins; now and then all are killed, and then all seats are free at once.
+ * The last line is 'KILLS kills, 3 seats', with status 0, or what was wrong, with status 1. */
 #include "../say.h"
 
 #include <sched.h>
@@ -12,9 +12,10 @@
 
 enum { SEATS = 3, WORKERS = 6, PROGRESS = 1000, ALL_ONE_IN = 32, FRESH_ONE_IN = 8 };
 
-enum { HELD = 3, WANTS = 4, CHANGE = 8 }; /* of a note: seats held, whether a call is under way, and one change counted */
+/* Of a note: the seats held, whether a call is under way, and from there on the count of its changes. */
+enum { HELD = 3, WANTS = 4, CHANGE = 8 };
 
-/* What one worker notes, in one word: seats are noted when they are there, and struck out before they are given back. So
+/* What one worker notes, in one word: seats are noted once it has them, and struck out before they are given back. So
  * it has the seats of its note, and for a moment more. Doomed: it is about to be killed, which gives its seats back. */
 struct slot {
     _Atomic uint64_t note;
@@ -30,7 +31,7 @@ static struct {
 
 static int set;
 static pid_t workers[WORKERS];
-static unsigned long kills, inside, within, fresh; /* the dead: with a seat, within a call, before all calls */
+static unsigned long kills, inside, within, fresh; /* the dead: all, with a seat, within a call, new ones */
 static uint64_t state;
 
 static unsigned below(unsigned bound)
@@ -51,8 +52,8 @@ static void look(uint64_t notes[WORKERS])
         notes[i] = atomic_load(&shared->slots[i].note);
 }
 
-/* The seats that were surely held at one and the same moment, right after that look: a note that has not changed since was
- * true then, and its worker lived. */
+/* The seats that were surely held at one and the same moment, right after that look: a note that has not changed since
+ * was true then, and its worker lived. */
 static int held_then(const uint64_t notes[WORKERS])
 {
     int held = 0;
@@ -191,8 +192,8 @@ static void tell_progress(void)
 {
     static uint64_t takes_before;
     uint64_t takes = atomic_load(&shared->takes);
-    fprintf(stderr, "seats: %lu kills, %lu with a seat, %lu within a call, %lu at once after fork; %llu takes\n", kills, inside,
-            within, fresh, (unsigned long long)takes);
+    fprintf(stderr, "seats: %lu kills, %lu with a seat, %lu within a call, %lu at once after fork; %llu takes\n", kills,
+            inside, within, fresh, (unsigned long long)takes);
     if (takes == takes_before)
         accuse("nobody got a seat for so many kills", PROGRESS);
     takes_before = takes;
@@ -216,29 +217,35 @@ static void go_on_until(unsigned long wanted)
     }
 }
 
+/* -1 if the text is no number. */
+static long number(const char *text)
+{
+    char *rest;
+    long number = strtol(text, &rest, 10);
+    return rest != text && *rest == '\0' && number >= 0 ? number : -1;
+}
+
 int main(int argc, char **argv)
 {
-    char *rest = "";
-    unsigned long wanted = argc == 2 || argc == 3 ? strtoul(argv[1], &rest, 10) : 0;
-    if (wanted > 0 && *rest == '\0')
-        state = argc == 3 ? strtoul(argv[2], &rest, 10) : 1;
-    if (wanted == 0 || *rest != '\0') {
+    long wanted = argc == 2 || argc == 3 ? number(argv[1]) : -1, seed = argc == 3 ? number(argv[2]) : 1;
+    if (wanted <= 0 || seed < 0) {
         fprintf(stderr, "usage: seats KILLS [SEED]\n");
         return 2;
     }
+    state = (uint64_t)seed;
     shared = mmap(NULL, sizeof *shared, PROT_READ | PROT_WRITE, MAP_SHARED | MAP_ANONYMOUS, -1, 0);
     must(shared == MAP_FAILED ? -1 : 0);
     set = make(1);
     must(set_value(set, 0, SEATS));
     for (int i = 0; i < WORKERS; i++)
         hire(i);
-    go_on_until(wanted);
+    go_on_until((unsigned long)wanted);
     dismiss_all();
     remove_set(set);
     if (atomic_load(&shared->wrongs) > 0) {
         printf("%s\n", shared->wrong);
         return 1;
     }
-    printf("%lu kills, %d seats\n", wanted, SEATS);
+    printf("%ld kills, %d seats\n", wanted, SEATS);
     return 0;
 }
