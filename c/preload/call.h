@@ -1,4 +1,4 @@
-/* A request to the daemon, and its answer. */
+/* A request to the daemon that is answered at once. Signals are held meanwhile. */
 #ifndef VAIROLENT_CALL_H
 #define VAIROLENT_CALL_H
 
@@ -19,8 +19,8 @@ struct reply {
     } data;
 };
 
-/* Sends a request with its data, which may be the program's own memory: code EFAULT if it is not there. Only an operate
- * sleeps. Returns how many bytes of data the reply has; the rest is zero. errno may change. */
+/* Sends a request with its data. Code ENOSYS if there is no daemon. Returns how many bytes of data the reply has; the
+ * rest is zero. errno may change. */
 size_t call(struct request request, const void *data, size_t length, struct reply *reply);
 
 #endif

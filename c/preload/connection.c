@@ -5,7 +5,6 @@
 #include <fcntl.h>
 #include <pthread.h>
 #include <stdatomic.h>
-#include <stdbool.h>
 #include <stdlib.h>
 #include <string.h>
 #include <sys/un.h>
@@ -48,9 +47,14 @@ static bool is_ours(void)
            seen.st_ino == mine.file;
 }
 
+static bool is_of_user(void)
+{
+    return mine.user == geteuid() && mine.group == getegid();
+}
+
 /* Shut down, it ends for the daemon although a child may hold it too, from a fork in another thread. A child only lets
  * go of its parent's. */
-void connection_close(void)
+static void close_mine(void)
 {
     if (is_ours()) {
         if (mine.process == getpid())
@@ -60,11 +64,10 @@ void connection_close(void)
     mine.descriptor = -1;
 }
 
-/* At the end of a thread, and in the child of a fork: the parent's connection is not the child's to keep open. */
-static void close_held(void)
+void connection_close(void)
 {
     struct held before = signals_hold();
-    connection_close();
+    close_mine();
     signals_release(&before);
 }
 
@@ -72,7 +75,7 @@ static void close_held(void)
 static void close_of_thread(void *unused)
 {
     (void)unused;
-    close_held();
+    connection_close();
 }
 
 void connection_prepare(void)
@@ -81,7 +84,7 @@ void connection_prepare(void)
     if (path != NULL && strlen(path) < sizeof address.sun_path)
         memcpy(address.sun_path, path, strlen(path));
     pthread_key_create(&at_thread_end, close_of_thread);
-    pthread_atfork(NULL, NULL, close_held);
+    pthread_atfork(NULL, NULL, connection_close); /* the parent's is not the child's to keep open */
 }
 
 /* A socket that is connected to the daemon, or -1 and errno. */
@@ -124,17 +127,31 @@ static void make(void)
 /* A child that was made by a bare system call has its parent's descriptor, and may share its parent's table of them: it
  * is left alone, which costs the child a number. The daemon takes the user at the connection: another user connects
  * anew. */
-int connection_get(void)
+static void renew(void)
 {
     if (mine.descriptor >= 0 && mine.process != getpid())
         mine.descriptor = -1;
-    if (mine.descriptor >= 0 && (mine.user != geteuid() || mine.group != getegid()))
-        connection_close();
+    if (mine.descriptor >= 0 && !is_of_user())
+        close_mine();
     if (!is_ours()) {
         mine.descriptor = -1;
         make();
     }
+}
+
+int connection_get(void)
+{
+    if (!connection_is(mine.descriptor) || !is_of_user()) {
+        struct held before = signals_hold();
+        renew();
+        signals_release(&before);
+    }
     return mine.descriptor;
+}
+
+bool connection_is(int descriptor)
+{
+    return mine.descriptor == descriptor && mine.process == getpid() && is_ours();
 }
 
 void connection_lost(void)

@@ -4,14 +4,12 @@
 #define VAIROLENT_KERNEL_H
 
 #include <poll.h>
-#include <signal.h>
+#include <stdint.h>
 #include <sys/socket.h>
 #include <sys/stat.h>
 #include <sys/syscall.h>
 #include <time.h>
 #include <unistd.h>
-
-enum { KERNEL_SIGNAL_BYTES = 8 }; /* of a set of signals, the first bytes of a sigset_t */
 
 static inline int kernel_close(int descriptor)
 {
@@ -48,9 +46,15 @@ static inline int kernel_shutdown(int descriptor)
     return (int)syscall(SYS_shutdown, descriptor, SHUT_RDWR);
 }
 
-static inline ssize_t kernel_sendmsg(int descriptor, const struct msghdr *message, int flags)
+/* One packet; how many were sent, or received. */
+static inline int kernel_sendmmsg(int descriptor, struct mmsghdr *packet, int flags)
 {
-    return syscall(SYS_sendmsg, descriptor, message, flags);
+    return (int)syscall(SYS_sendmmsg, descriptor, packet, 1, flags);
+}
+
+static inline int kernel_recvmmsg(int descriptor, struct mmsghdr *packet, int flags)
+{
+    return (int)syscall(SYS_recvmmsg, descriptor, packet, 1, flags, NULL);
 }
 
 static inline ssize_t kernel_recv(int descriptor, void *bytes, size_t room)
@@ -58,19 +62,12 @@ static inline ssize_t kernel_recv(int descriptor, void *bytes, size_t room)
     return syscall(SYS_recvfrom, descriptor, bytes, room, 0, NULL, NULL);
 }
 
-static inline int kernel_poll(struct pollfd *watched, unsigned count, int milliseconds)
+/* With a limit that is none. The kernel cannot write to it what is left of it, and so does not begin the wait again
+ * after a stop: it ends with EINTR then, too. */
+static inline int kernel_ppoll(struct pollfd *watched, unsigned count)
 {
-    return (int)syscall(SYS_poll, watched, count, milliseconds);
-}
-
-static inline int kernel_signalfd(const sigset_t *signals, int flags)
-{
-    return (int)syscall(SYS_signalfd4, -1, signals, KERNEL_SIGNAL_BYTES, flags);
-}
-
-static inline int kernel_sigtimedwait(const sigset_t *signals, siginfo_t *info, const struct timespec *time)
-{
-    return (int)syscall(SYS_rt_sigtimedwait, signals, info, time, KERNEL_SIGNAL_BYTES);
+    static const struct timespec for_ever = {INT32_MAX, 0};
+    return (int)syscall(SYS_ppoll, watched, count, &for_ever, NULL, 0);
 }
 
 #endif

@@ -2,6 +2,8 @@
 #include "load.h"
 
 #include <pthread.h>
+#include <stdatomic.h>
+#include <stdbool.h>
 #include <stddef.h>
 #include <unistd.h>
 
@@ -18,7 +20,13 @@ static void prepare(void)
 void load(void)
 {
     static pthread_once_t once = PTHREAD_ONCE_INIT;
+    static atomic_bool done;
+    if (done)
+        return;
+    struct held before = signals_hold();
     pthread_once(&once, prepare);
+    done = true;
+    signals_release(&before);
 }
 
 /* Linked with -z initfirst it runs before the constructors of other libraries, so that no raw call of theirs goes by,

@@ -2,7 +2,6 @@
 #ifndef VAIROLENT_LOAD_H
 #define VAIROLENT_LOAD_H
 
-/* For a thread whose signals are held. */
 void load(void);
 
 #endif

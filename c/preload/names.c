@@ -3,9 +3,8 @@
 #include <errno.h>
 #include <stdarg.h>
 
+#include "name.h"
 #include "semaphores.h"
-
-#define NAME __attribute__((visibility("default")))
 
 static int returned(int before, struct answer answer)
 {

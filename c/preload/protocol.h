@@ -11,7 +11,7 @@ enum { PROTOCOL_VERSION = 1 };
 
 enum request_kind {
     REQUEST_GET = 1,     /* words: key, nsems, flags. Value: the identifier */
-    REQUEST_OPERATE = 2, /* words: identifier, 0, 0; data: the operations, each a struct sembuf. The only call that sleeps */
+    REQUEST_OPERATE = 2, /* words: identifier, 0, 0; data: a struct sembuf for each operation. Only this call sleeps */
     REQUEST_CONTROL = 3, /* words: identifier, number, command (a number of <sys/sem.h>); data: see below */
     REQUEST_CANCEL = 4,  /* a signal for the call that sleeps here: it ends with EINTR. It has no answer of its own, and
                             where no call sleeps it does nothing: then that call's answer is on its way */

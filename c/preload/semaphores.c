@@ -6,6 +6,7 @@
 
 #include "call.h"
 #include "memory.h"
+#include "operate.h"
 
 enum { OPERATIONS = 32, NANOSECONDS = 1000000000, COMMAND_64 = 0x100 };
 
@@ -43,19 +44,15 @@ struct answer semaphores_operate(int id, const struct sembuf *operations, unsign
     struct request request = {.kind = REQUEST_OPERATE, .words = {id}, .wait = -1};
     struct timespec wait = {0, 0};
     struct sembuf unused[OPERATIONS] = {{0}};
-    struct reply reply;
     if (time != NULL && !memory_read(&wait, time, sizeof wait))
         return refused(EFAULT);
-    if (count > OPERATIONS) {
-        call(request, too_many, sizeof too_many, &reply);
-        return reply.answer;
-    }
+    if (count > OPERATIONS)
+        return operate(&request, too_many, sizeof too_many);
     if (!is_valid(wait))
         return refused(memory_read(unused, operations, count * sizeof *operations) ? EINVAL : EFAULT);
     if (time != NULL)
         request.wait = nanoseconds(wait);
-    call(request, operations, count * sizeof *operations, &reply);
-    return reply.answer;
+    return operate(&request, operations, count * sizeof *operations);
 }
 
 /* A control with data; returns how many bytes of data the reply has. */

@@ -12,7 +12,9 @@
 #include <sys/prctl.h>
 #include <ucontext.h>
 
+#include "handlers.h"
 #include "kernel.h"
+#include "library.h"
 #include "say.h"
 #include "semaphores.h"
 
@@ -56,7 +58,7 @@ static bool answered(const siginfo_t *info, const greg_t *registers, struct answ
     }
 }
 
-/* A SIGSYS that is not for one of our four calls ends the program, as it does without us. */
+/* A SIGSYS that is not for one of our four calls is the program's own. */
 static void trapped(int number, siginfo_t *info, void *context)
 {
     greg_t *registers = ((ucontext_t *)context)->uc_mcontext.gregs;
@@ -65,8 +67,7 @@ static void trapped(int number, siginfo_t *info, void *context)
     if (trying) {
         trying = 0;
     } else if (!answered(info, registers, &answer)) {
-        signal(number, SIG_DFL);
-        raise(number);
+        handlers_pass(number, info, context);
         return;
     }
     registers[REG_RAX] = answer.code == 0 ? answer.value : -answer.code;
@@ -128,7 +129,7 @@ void trap_prepare(void)
 {
     struct sigaction action = {.sa_sigaction = trapped, .sa_flags = SA_SIGINFO | SA_NODEFER};
     sigemptyset(&action.sa_mask);
-    sigaction(SIGSYS, &action, NULL);
+    library()->sigaction(SIGSYS, &action, NULL);
     if (is_there() || is_set())
         return;
     if (errno == EACCES && prctl(PR_SET_NO_NEW_PRIVS, 1, 0, 0, 0) == 0 && is_set())
