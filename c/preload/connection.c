@@ -7,13 +7,17 @@
 #include <stdatomic.h>
 #include <stdlib.h>
 #include <string.h>
+#include <sys/mman.h>
 #include <sys/un.h>
 
 #include "kernel.h"
 #include "say.h"
 #include "signals.h"
 
-enum { HIGH = 700 }; /* our descriptors begin here, out of the way of programs that count on low ones */
+enum {
+    HIGH = 700,      /* our descriptors begin here, out of the way of programs that count on low ones */
+    LONG = 100000000 /* seconds: three years */
+};
 
 /* A connection, and for whom it was made: the daemon took process and user from the socket then. The file tells whether
  * the descriptor is still ours. */
@@ -30,6 +34,26 @@ struct connection {
 static __thread struct connection mine __attribute__((tls_model("initial-exec"))) = {.descriptor = -1};
 static struct sockaddr_un address = {.sun_family = AF_UNIX};
 static pthread_key_t at_thread_end;
+
+/* The present process, in memory that is zero in the child of a fork, however it is made. Where there is none such, the
+ * kernel is asked each time. */
+static pid_t *wiped;
+
+static pid_t process(void)
+{
+    if (wiped == NULL)
+        return getpid();
+    if (*wiped == 0)
+        *wiped = getpid();
+    return *wiped;
+}
+
+static void prepare_process(void)
+{
+    void *page = mmap(NULL, sizeof *wiped, PROT_READ | PROT_WRITE, MAP_PRIVATE | MAP_ANONYMOUS, -1, 0);
+    if (page != MAP_FAILED && madvise(page, sizeof *wiped, MADV_WIPEONFORK) == 0)
+        wiped = page;
+}
 
 /* Once for the process, however many calls are refused. */
 static void say_refused(const char *before, const char *name, const char *why)
@@ -57,7 +81,7 @@ static bool is_of_user(void)
 static void close_mine(void)
 {
     if (is_ours()) {
-        if (mine.process == getpid())
+        if (mine.process == process())
             kernel_shutdown(mine.descriptor);
         kernel_close(mine.descriptor);
     }
@@ -83,16 +107,19 @@ void connection_prepare(void)
     const char *path = getenv("VAIROLENT_SOCKET");
     if (path != NULL && strlen(path) < sizeof address.sun_path)
         memcpy(address.sun_path, path, strlen(path));
+    prepare_process();
     pthread_key_create(&at_thread_end, close_of_thread);
     pthread_atfork(NULL, NULL, connection_close); /* the parent's is not the child's to keep open */
 }
 
-/* A socket that is connected to the daemon, or -1 and errno. */
+/* A socket that is connected to the daemon, or -1 and errno. With a limit on its time, however long, receiving is not
+ * begun again behind a signal or a stop (signal(7)), as semop is not. */
 static int connected(void)
 {
     int low = kernel_socket(AF_UNIX, SOCK_SEQPACKET | SOCK_CLOEXEC);
     if (low < 0)
         return -1;
+    kernel_limit_receiving(low, LONG);
     while (kernel_connect(low, &address, sizeof address) != 0) {
         int error = errno;
         if (error == EINTR)
@@ -120,7 +147,7 @@ static void make(void)
         say_refused("no daemon at ", address.sun_path, strerrordesc_np(errno));
         return;
     }
-    mine = (struct connection){descriptor, getpid(), geteuid(), getegid(), seen.st_dev, seen.st_ino};
+    mine = (struct connection){descriptor, process(), geteuid(), getegid(), seen.st_dev, seen.st_ino};
     pthread_setspecific(at_thread_end, &mine);
 }
 
@@ -129,7 +156,7 @@ static void make(void)
  * anew. */
 static void renew(void)
 {
-    if (mine.descriptor >= 0 && mine.process != getpid())
+    if (mine.descriptor >= 0 && mine.process != process())
         mine.descriptor = -1;
     if (mine.descriptor >= 0 && !is_of_user())
         close_mine();
@@ -151,7 +178,7 @@ int connection_get(void)
 
 bool connection_is(int descriptor)
 {
-    return mine.descriptor == descriptor && mine.process == getpid() && is_ours();
+    return mine.descriptor == descriptor && mine.process == process() && is_ours();
 }
 
 void connection_lost(void)

@@ -3,12 +3,10 @@
 #ifndef VAIROLENT_KERNEL_H
 #define VAIROLENT_KERNEL_H
 
-#include <poll.h>
 #include <stdint.h>
 #include <sys/socket.h>
 #include <sys/stat.h>
 #include <sys/syscall.h>
-#include <time.h>
 #include <unistd.h>
 
 static inline int kernel_close(int descriptor)
@@ -41,33 +39,27 @@ static inline int kernel_connect(int descriptor, const void *address, socklen_t 
     return (int)syscall(SYS_connect, descriptor, address, length);
 }
 
+/* A limit on the time of receiving, in seconds. */
+static inline int kernel_limit_receiving(int descriptor, int64_t seconds)
+{
+    int64_t limit[2] = {seconds, 0};
+    return (int)syscall(SYS_setsockopt, descriptor, SOL_SOCKET, SO_RCVTIMEO, limit, sizeof limit);
+}
+
 static inline int kernel_shutdown(int descriptor)
 {
     return (int)syscall(SYS_shutdown, descriptor, SHUT_RDWR);
 }
 
-/* One packet; how many were sent, or received. */
+/* One packet; how many were sent. */
 static inline int kernel_sendmmsg(int descriptor, struct mmsghdr *packet, int flags)
 {
     return (int)syscall(SYS_sendmmsg, descriptor, packet, 1, flags);
 }
 
-static inline int kernel_recvmmsg(int descriptor, struct mmsghdr *packet, int flags)
-{
-    return (int)syscall(SYS_recvmmsg, descriptor, packet, 1, flags, NULL);
-}
-
 static inline ssize_t kernel_recv(int descriptor, void *bytes, size_t room)
 {
     return syscall(SYS_recvfrom, descriptor, bytes, room, 0, NULL, NULL);
-}
-
-/* With a limit that is none. The kernel cannot write to it what is left of it, and so does not begin the wait again
- * after a stop: it ends with EINTR then, too. */
-static inline int kernel_ppoll(struct pollfd *watched, unsigned count)
-{
-    static const struct timespec for_ever = {INT32_MAX, 0};
-    return (int)syscall(SYS_ppoll, watched, count, &for_ever, NULL, 0);
 }
 
 #endif

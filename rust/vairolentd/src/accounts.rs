@@ -18,6 +18,7 @@ impl Daemon {
                 self.bring_together(number, *first);
                 self.keep_or_release(number, process);
             }
+            self.keep_or_release(*first, process);
         }
     }
 

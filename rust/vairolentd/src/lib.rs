@@ -55,11 +55,13 @@ pub fn serve(socket: &Path, folder: &Path, mode: u32, with_lines: bool) -> io::R
     };
     let endings = Endings::new()?;
     system::raise_descriptors();
-    let record = Record::begin(folder, with_lines).map_err(|error| at(folder, error))?;
     let listener = listen(socket, mode).map_err(|error| at(socket, error))?;
-    let mut server = Server::new(Daemon::new(record), listener, endings)?;
-    say(format!("serving at {}, recording in {}", socket.display(), folder.display()));
-    let served = server.serve();
+    let record = Record::begin(folder, with_lines).map_err(|error| at(folder, error));
+    let served = record.and_then(|record| {
+        let mut server = Server::new(Daemon::new(record), listener, endings)?;
+        say(format!("serving at {}, recording in {}", socket.display(), folder.display()));
+        server.serve()
+    });
     fs::remove_file(socket)?;
     served
 }
@@ -68,9 +70,12 @@ pub fn serve(socket: &Path, folder: &Path, mode: u32, with_lines: bool) -> io::R
 /// connect to it, and it has its mode.
 fn listen(path: &Path, mode: u32) -> io::Result<Socket> {
     let in_use = |words| Err(io::Error::new(io::ErrorKind::AddrInUse, words));
+    let is_left = |error: io::Error| error.kind() == io::ErrorKind::ConnectionRefused;
     match fs::symlink_metadata(path) {
         Ok(there) if !there.file_type().is_socket() => return in_use("it is no socket"),
-        Ok(_) if Socket::connect(path).is_ok() => return in_use("another daemon serves there"),
+        Ok(_) if !Socket::connect(path).err().map_or(false, is_left) => {
+            return in_use("somebody serves there");
+        }
         _ => {}
     }
     let mut new = path.as_os_str().to_owned();

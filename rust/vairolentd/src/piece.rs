@@ -1,9 +1,9 @@
 //! One file of the recording, while it grows and when it is whole.
 //!
-//! FILE.part has the bodies of its events, each behind its length in two bytes, and beside it the
-//! lines of these events grow, where they are wanted. When the piece is whole, FILE is a run file,
-//! and the lines are its listing. A text says which process had which number. What the disk has no
-//! room for stays in memory until there is some.
+//! FILE.part has the bodies of its events, each behind its length in two bytes, with zeros behind them;
+//! and beside it the lines of these events grow, where they are wanted. When the piece is whole, FILE is
+//! a run file, and the lines are its listing. A text says which process had which number. What the disk
+//! has no room for stays in memory until there is some.
 
 use std::fs::{self, File, OpenOptions};
 use std::io::{self, Write};
@@ -11,7 +11,46 @@ use std::path::{Path, PathBuf};
 
 use runtext::runfile::{self, ENTRY, FILE_MAX, HEAD};
 
-/// A file that only grows, and how much of it is on the disk.
+use crate::system::Mapped;
+
+/// The bodies, each behind its length, and the file that has them too, where there is one.
+struct Part {
+    path: PathBuf,
+    bytes: Vec<u8>,
+    file: Option<Mapped>,
+}
+
+impl Part {
+    /// No file has more, since each body takes four more bytes in it, and two here.
+    const ROOM: usize = FILE_MAX;
+
+    fn new(path: PathBuf) -> Part {
+        Part { path, bytes: Vec::new(), file: None }
+    }
+
+    fn add(&mut self, body: &[u8]) {
+        let at = self.bytes.len();
+        self.bytes.extend((body.len() as u16).to_le_bytes());
+        self.bytes.extend(body);
+        if let Some(file) = &mut self.file {
+            file.put(at, &self.bytes[at..]);
+        }
+    }
+
+    /// Makes the file, where it could not be made yet.
+    fn save(&mut self) -> io::Result<()> {
+        if self.file.is_none() {
+            let mut file = Mapped::create(&self.path, Part::ROOM)?;
+            if !self.bytes.is_empty() {
+                file.put(0, &self.bytes);
+            }
+            self.file = Some(file);
+        }
+        Ok(())
+    }
+}
+
+/// A text that only grows, and how much of it is on the disk.
 struct Growing {
     path: PathBuf,
     file: Option<File>,
@@ -25,6 +64,9 @@ impl Growing {
     }
 
     fn save(&mut self) -> io::Result<()> {
+        if self.saved == self.bytes.len() {
+            return Ok(());
+        }
         if self.file.is_none() {
             let mut options = OpenOptions::new();
             self.file = Some(options.create_new(true).append(true).open(&self.path)?);
@@ -42,7 +84,7 @@ impl Growing {
 
 pub struct Piece {
     path: PathBuf,
-    part: Growing,
+    part: Part,
     lines: Option<Growing>,
     who: Growing,
     events: usize,
@@ -52,7 +94,7 @@ pub struct Piece {
 
 impl Piece {
     pub fn new(path: PathBuf, with_lines: bool) -> Piece {
-        let part = Growing::new(part_of(&path));
+        let part = Part::new(part_of(&path));
         let lines = with_lines.then(|| Growing::new(part_of(&listing_of(&path))));
         let who = Growing::new(path.with_extension("who"));
         Piece { path, part, lines, who, events: 0, size: HEAD }
@@ -72,8 +114,7 @@ impl Piece {
     }
 
     pub fn add(&mut self, body: &[u8], line: impl FnOnce() -> String) {
-        self.part.bytes.extend((body.len() as u16).to_le_bytes());
-        self.part.bytes.extend(body);
+        self.part.add(body);
         if let Some(lines) = &mut self.lines {
             lines.bytes.extend(format!("{} {}\n", self.events, line()).into_bytes());
         }
@@ -96,7 +137,7 @@ impl Piece {
 
     /// Makes it whole.
     pub fn finish(&mut self) -> io::Result<()> {
-        self.save()?;
+        self.who.save()?;
         finish(&self.path, &self.part.bytes, self.lines.as_ref().map(|lines| &lines.bytes[..]))
     }
 }
@@ -127,13 +168,13 @@ fn finish(path: &Path, part: &[u8], lines: Option<&[u8]>) -> io::Result<()> {
     Ok(())
 }
 
-/// The whole bodies of a part: the last may be cut off, where its daemon was killed.
+/// The bodies of a part, up to the first length that is 0.
 fn bodies(part: &[u8]) -> Vec<Vec<u8>> {
     let mut bodies = Vec::new();
     let mut rest = part;
     while let [low, high, behind @ ..] = rest {
         let length = usize::from(u16::from_le_bytes([*low, *high]));
-        if behind.len() < length {
+        if length == 0 || behind.len() < length {
             break;
         }
         bodies.push(behind[..length].to_vec());
@@ -168,12 +209,12 @@ mod tests {
     use super::*;
 
     #[test]
-    fn a_body_that_is_cut_off_is_none() {
-        let part = [2, 0, 5, 1, 1, 0, 9, 3, 0, 7, 7];
+    fn bodies_end_at_the_first_zero() {
+        let part = [2, 0, 5, 1, 1, 0, 9, 0, 0, 7, 7, 0];
         assert_eq!(bodies(&part), [vec![5, 1], vec![9]]);
         assert_eq!(bodies(&part[..8]), [vec![5, 1], vec![9]]);
         assert_eq!(bodies(&part[..6]), [vec![5, 1]]);
-        assert_eq!(bodies(&part[..1]), Vec::<Vec<u8>>::new());
+        assert_eq!(bodies(&[0, 0, 5]), Vec::<Vec<u8>>::new());
     }
 
     #[test]

@@ -65,7 +65,7 @@ impl Record {
         let before = &mut self.who[usize::from(process) - 1];
         if before.as_ref().map_or(true, |who| who.0 != pid) {
             let comm = fs::read_to_string(format!("/proc/{pid}/comm")).unwrap_or_default();
-            let who = format!("pid {pid}, {}", comm.trim_end());
+            let who = format!("pid {pid}, {}", comm.trim_end().escape_debug());
             self.piece.name(process, &who);
             *before = Some((pid, who));
         }
@@ -133,15 +133,18 @@ impl Record {
 /// Makes whole what a killed daemon left in a folder. The folder, locked, and the last number there.
 pub fn recover(folder: &Path) -> io::Result<(File, u32)> {
     let lock = File::open(folder)?;
-    system::lock(&lock)?;
+    system::lock(&lock).map_err(|error| match error.kind() {
+        io::ErrorKind::WouldBlock => io::Error::new(error.kind(), "another daemon records there"),
+        _ => error,
+    })?;
     let mut last = 0;
     for entry in fs::read_dir(folder)? {
-        let path = entry?.path();
-        let digits = path.file_name().and_then(|name| name.to_str()?.split('.').next());
-        last = last.max(digits.and_then(|digits| digits.parse().ok()).unwrap_or(0));
-        let whole = path.with_extension("");
-        let ends = |path: &Path, with: &str| path.extension().map_or(false, |end| end == with);
-        if ends(&path, "part") && (ends(&whole, "run") || ends(&whole, "more")) {
+        let name = entry?.file_name().to_string_lossy().into_owned();
+        let words: Vec<&str> = name.split('.').collect();
+        let number = words[0].parse().ok().filter(|_| words[0].len() >= 6);
+        last = last.max(number.unwrap_or(0));
+        if let (Some(number), [_, end @ ("run" | "more"), "part"]) = (number, &words[..]) {
+            let whole = file(folder, number, end);
             piece::recover(&whole)?;
             say(format!("{} was left growing, and is whole now", whole.display()));
         }

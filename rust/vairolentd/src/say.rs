@@ -1,5 +1,5 @@
-//! What the daemon says of itself, a line each on standard error: some in a second at most, so that
-//! nobody who makes trouble fills the disk with it.
+//! What the daemon says, a line each on standard error. Of what others do wrong it says some lines in a
+//! second at most, so that nobody fills a disk with them.
 
 use std::fmt::Display;
 use std::io::{self, Write};
@@ -7,10 +7,10 @@ use std::sync::Mutex;
 
 use crate::clock;
 
-/// Lines in one second.
+/// Complaints in one second.
 const MOST: u32 = 20;
 
-/// The present second, how many lines were said in it, and how many were left out.
+/// The present second, how many complaints were said in it, and how many left out.
 #[derive(Default)]
 struct Pace {
     second: u64,
@@ -19,7 +19,7 @@ struct Pace {
 }
 
 impl Pace {
-    /// May a line be said in this second? And how many were left out before it.
+    /// May one be said in this second? And how many were left out before it.
     fn allows(&mut self, second: u64) -> Option<u32> {
         if second != self.second {
             (self.second, self.said) = (second, 0);
@@ -37,13 +37,17 @@ static PACE: Mutex<Pace> = Mutex::new(Pace { second: 0, said: 0, left_out: 0 });
 
 /// Says it; where nobody can hear, the daemon goes on.
 pub fn say(words: impl Display) {
+    let _ = io::stderr().write_all(format!("vairolentd: {words}\n").as_bytes());
+}
+
+/// Says what others do wrong, unless there is too much of it.
+pub fn complain(words: impl Display) {
     let allowed = PACE.lock().map(|mut pace| pace.allows(clock::wall()));
     if let Ok(Some(left_out)) = allowed {
         if left_out > 0 {
-            let _ =
-                writeln!(io::stderr(), "vairolentd: {left_out} lines like the last are left out");
+            say(format!("{left_out} complaints before this one are left out"));
         }
-        let _ = writeln!(io::stderr(), "vairolentd: {words}");
+        say(words);
     }
 }
 
@@ -52,7 +56,7 @@ mod tests {
     use super::*;
 
     #[test]
-    fn so_many_lines_in_a_second() {
+    fn so_many_complaints_in_a_second() {
         let mut pace = Pace::default();
         for _ in 0..MOST {
             assert_eq!(pace.allows(5), Some(0));

@@ -11,7 +11,7 @@ use crate::daemon::{ConnectionId, Daemon};
 use crate::errno::{Errno, ENOSPC};
 use crate::message::{Reply, Request, LONGEST};
 use crate::operate::Call;
-use crate::say::say;
+use crate::say::complain;
 use crate::system::{Endings, Poll, ProcessHandle, Socket};
 
 const LISTENER: u64 = 0;
@@ -66,7 +66,6 @@ impl Server {
         loop {
             let ready = self.poll.wait(self.daemon.next_end())?;
             self.daemon.end_waits();
-            // Who ended before a call was sent has exited before it is judged.
             for &token in ready.iter().filter(|&&token| token >= FIRST) {
                 self.end(ProcessId(token));
             }
@@ -102,7 +101,7 @@ impl Server {
             }
         };
         if let Err(error) = accepted {
-            say(format!("a connection is refused: {error}"));
+            complain(format!("a connection is refused: {error}"));
         }
     }
 
@@ -152,6 +151,24 @@ impl Server {
         }
     }
 
+    /// Who ended before a call was sent has exited before it is judged: a parent whose wait came back
+    /// finds its child's undo done.
+    fn end_holders(&mut self, caller: ProcessId) {
+        let leases = &self.daemon.leases;
+        let holders = leases.taken().filter_map(|number| leases.holder(number));
+        let mut holders: Vec<ProcessId> = holders.filter(|&holder| holder != caller).collect();
+        let handles = holders.iter().filter_map(|holder| self.processes.get(holder));
+        let handles: Vec<&ProcessHandle> = handles.map(|process| &process.handle).collect();
+        if handles.is_empty() || !ProcessHandle::some_ended(&handles) {
+            return;
+        }
+        let ended = |holder: &ProcessId| {
+            self.processes.get(holder).map_or(false, |process| process.handle.has_ended())
+        };
+        holders.retain(ended);
+        holders.into_iter().for_each(|holder| self.end(holder));
+    }
+
     /// Reads one packet, so that each connection has its turn.
     fn read(&mut self, id: ConnectionId) {
         let mut packet = [0; LONGEST + 1];
@@ -180,13 +197,19 @@ impl Server {
                 self.daemon.interrupt(id);
                 None
             }
-            _ if sleeps => return self.refuse(id, "a call while another sleeps"),
+            _ if sleeps => {
+                self.refuse(id, "a call while another sleeps");
+                None
+            }
             Request::Status => {
                 let text = self.daemon.status(caller);
                 Some(Reply::with(0, text.into_bytes()))
             }
             _ if self.daemon.engine.record().is_full() => Some(ENOSPC.into()),
-            request => self.call(id, caller, request),
+            request => {
+                self.end_holders(caller.process);
+                self.call(id, caller, request)
+            }
         };
         self.send_answers();
         if let Some(reply) = reply {
@@ -240,7 +263,10 @@ impl Server {
     /// Closes a connection that breaks the rules, and says so.
     fn refuse(&mut self, id: ConnectionId, words: &str) {
         if let Some(connection) = self.connections.get(&id) {
-            say(format!("process {}: {words}; its connection is closed", connection.caller.pid));
+            complain(format!(
+                "process {}: {words}; its connection is closed",
+                connection.caller.pid
+            ));
             self.close(id);
         }
     }

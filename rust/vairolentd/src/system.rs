@@ -1,12 +1,13 @@
 //! What std lacks of the C library, each with a safe face.
 
 use std::ffi::c_void;
-use std::fs::File;
+use std::fs::{self, File, OpenOptions};
 use std::io;
 use std::mem::size_of;
 use std::os::unix::io::{AsRawFd, FromRawFd, OwnedFd};
 use std::path::Path;
 use std::ptr;
+use std::sync::atomic::{compiler_fence, Ordering};
 use std::time::Duration;
 
 #[repr(C)]
@@ -52,6 +53,16 @@ extern "C" {
     fn poll(polled: *mut Polled, count: u64, milliseconds: i32) -> i32;
     fn syscall(number: i64, ...) -> i64;
     fn flock(descriptor: i32, operation: i32) -> i32;
+    fn posix_fallocate(descriptor: i32, offset: i64, length: i64) -> i32;
+    fn mmap(
+        address: *mut c_void,
+        length: usize,
+        protection: i32,
+        flags: i32,
+        descriptor: i32,
+        offset: i64,
+    ) -> *mut c_void;
+    fn munmap(address: *mut c_void, length: usize) -> i32;
     fn umask(mask: u32) -> u32;
     fn sigemptyset(signals: *mut Signals) -> i32;
     fn sigaddset(signals: *mut Signals, signal: i32) -> i32;
@@ -202,10 +213,18 @@ pub struct ProcessHandle(OwnedFd);
 
 impl ProcessHandle {
     pub fn has_ended(&self) -> bool {
-        let descriptor = self.0.as_raw_fd();
-        let mut polled = Polled { descriptor, events: READABLE as i16, seen: 0 };
-        // SAFETY: there is one, and it lives.
-        unsafe { poll(&mut polled, 1, 0) > 0 }
+        ProcessHandle::some_ended(&[self])
+    }
+
+    /// Has one of them ended?
+    pub fn some_ended(handles: &[&ProcessHandle]) -> bool {
+        let polled = |handle: &&ProcessHandle| {
+            let descriptor = handle.0.as_raw_fd();
+            Polled { descriptor, events: READABLE as i16, seen: 0 }
+        };
+        let mut polled: Vec<Polled> = handles.iter().map(polled).collect();
+        // SAFETY: there are as many, and they live.
+        unsafe { poll(polled.as_mut_ptr(), polled.len() as u64, 0) > 0 }
     }
 }
 
@@ -256,13 +275,20 @@ impl Readable for Endings {
     }
 }
 
+/// How many are told at once.
+const MOST: usize = 256;
+
 /// Tells which of many are readable.
-pub struct Poll(OwnedFd);
+pub struct Poll {
+    descriptor: OwnedFd,
+    ready: [Ready; MOST],
+}
 
 impl Poll {
     pub fn new() -> io::Result<Poll> {
         // SAFETY: it takes a number.
-        owned(unsafe { epoll_create1(CLOSE_ON_EXEC) }).map(Poll)
+        let descriptor = owned(unsafe { epoll_create1(CLOSE_ON_EXEC) })?;
+        Ok(Poll { descriptor, ready: [Ready { events: 0, token: 0 }; MOST] })
     }
 
     /// Watches one, by a token, until it is closed.
@@ -270,27 +296,76 @@ impl Poll {
         const ADD: i32 = 1;
         let mut ready = Ready { events: READABLE, token };
         // SAFETY: the event lives.
-        let result =
-            unsafe { epoll_ctl(self.0.as_raw_fd(), ADD, readable.descriptor(), &mut ready) };
+        let result = unsafe {
+            epoll_ctl(self.descriptor.as_raw_fd(), ADD, readable.descriptor(), &mut ready)
+        };
         checked(result).map(|_| ())
     }
 
-    /// The tokens of those that are readable, once there are some or the time is over. Who became
-    /// readable before another is told before it or with it.
-    pub fn wait(&self, time: Option<Duration>) -> io::Result<Vec<u64>> {
-        const MOST: usize = 256;
-        let mut ready = [Ready { events: 0, token: 0 }; MOST];
+    /// The tokens of those that are readable, once there are some or the time is over.
+    pub fn wait(&mut self, time: Option<Duration>) -> io::Result<Vec<u64>> {
         let up = |time: Duration| (time.as_nanos() + 999_999) / 1_000_000;
         let milliseconds = time.map_or(-1, |time| i32::try_from(up(time)).unwrap_or(i32::MAX));
+        let (descriptor, start) = (self.descriptor.as_raw_fd(), self.ready.as_mut_ptr());
         // SAFETY: the list is as long as it says.
-        let count = unsafe {
-            epoll_wait(self.0.as_raw_fd(), ready.as_mut_ptr(), MOST as i32, milliseconds)
-        };
-        match checked(count) {
+        match checked(unsafe { epoll_wait(descriptor, start, MOST as i32, milliseconds) }) {
             Err(error) if error.kind() == io::ErrorKind::Interrupted => Ok(Vec::new()),
             Err(error) => Err(error),
-            Ok(count) => Ok(ready[..count as usize].iter().map(|ready| ready.token).collect()),
+            Ok(count) => Ok(self.ready[..count as usize].iter().map(|ready| ready.token).collect()),
         }
+    }
+}
+
+/// A file that lies in memory, with all its room on the disk from the beginning: what is put into it
+/// outlives this process, however that ends, and no call of the system is needed for it.
+pub struct Mapped {
+    start: *mut u8,
+    length: usize,
+}
+
+impl Mapped {
+    /// Makes the file, of zeros.
+    pub fn create(path: &Path, length: usize) -> io::Result<Mapped> {
+        const READ_WRITE: i32 = 1 | 2;
+        const SHARED: i32 = 1;
+        let mut options = OpenOptions::new();
+        let file = options.create_new(true).read(true).write(true).open(path)?;
+        let descriptor = file.as_raw_fd();
+        // SAFETY: it takes numbers.
+        let error = unsafe { posix_fallocate(descriptor, 0, length as i64) };
+        let mapped = match error {
+            // SAFETY: the system chooses where, and the file is as long.
+            0 => unsafe { mmap(ptr::null_mut(), length, READ_WRITE, SHARED, descriptor, 0) },
+            _ => usize::MAX as *mut c_void,
+        };
+        if mapped as usize == usize::MAX {
+            let error = match error {
+                0 => io::Error::last_os_error(),
+                _ => io::Error::from_raw_os_error(error),
+            };
+            let _ = fs::remove_file(path);
+            return Err(error);
+        }
+        Ok(Mapped { start: mapped.cast(), length })
+    }
+
+    /// Puts bytes at a place; the first two come last, so that they stand for all of them.
+    pub fn put(&mut self, at: usize, bytes: &[u8]) {
+        assert!(at + bytes.len() <= self.length && bytes.len() >= 2, "the file has no room for it");
+        // SAFETY: the place is within the memory, which is this file's alone.
+        unsafe {
+            let place = self.start.add(at);
+            ptr::copy_nonoverlapping(bytes[2..].as_ptr(), place.add(2), bytes.len() - 2);
+            compiler_fence(Ordering::SeqCst);
+            place.cast::<[u8; 2]>().write_volatile([bytes[0], bytes[1]]);
+        }
+    }
+}
+
+impl Drop for Mapped {
+    fn drop(&mut self) {
+        // SAFETY: it is this memory, and nothing of it is used any more.
+        unsafe { munmap(self.start.cast(), self.length) };
     }
 }
 

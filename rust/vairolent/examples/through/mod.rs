@@ -39,7 +39,7 @@ fn value(four: &[u8]) -> i32 {
 
 impl Handed<'_> {
     /// As this package takes it.
-    pub fn event(&self) -> Event {
+    pub fn event(&self) -> Event<'_> {
         match self.event {
             second::Event::Create { count, read, alter } => Event::Create { count, read, alter },
             second::Event::Operate { process, identifier, wait, .. } => {

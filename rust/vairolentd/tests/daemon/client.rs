@@ -84,6 +84,9 @@ impl Client {
     pub fn answer_or_end(&self) -> Option<Answer> {
         let mut packet = [0; 8192];
         let length = match self.0.receive(&mut packet) {
+            Err(error) if error.kind() == io::ErrorKind::Interrupted => {
+                return self.answer_or_end()
+            }
             Err(error) if error.kind() == io::ErrorKind::WouldBlock => panic!("no answer"),
             Ok(length) if length > 0 => length,
             _ => return None,
@@ -102,7 +105,7 @@ impl Client {
 
     /// Is there an answer, or the end of the connection?
     pub fn is_answered_within(&self, time: Duration) -> bool {
-        let poll = Poll::new().expect("a poll");
+        let mut poll = Poll::new().expect("a poll");
         poll.watch(&self.0, 0).expect("watched");
         !poll.wait(Some(time)).expect("waited").is_empty()
     }

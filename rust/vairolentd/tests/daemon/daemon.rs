@@ -155,7 +155,10 @@ impl Daemon {
 impl Drop for Daemon {
     fn drop(&mut self) {
         let _ = self.child.kill();
-        let _ = self.child.wait();
+        let status = self.child.wait();
+        if thread::panicking() {
+            eprintln!("{status:?}, and the daemon has said:\n{}", self.said());
+        }
     }
 }
 

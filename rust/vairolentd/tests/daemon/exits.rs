@@ -7,8 +7,8 @@ use crate::daemon::{until, Daemon};
 use crate::folder::Folder;
 use crate::process::Process;
 
-/// Two semaphores of 5 and 0, and a process that has taken 2 of the first with SEM_UNDO and sleeps on
-/// the second, in this order or the other. How it ends is told by the function.
+/// Two semaphores of 5 and 0, and a process that has taken 2 of the first with SEM_UNDO and sleeps
+/// on the second, in this order or the other. How it ends is told by the function.
 fn gives_back(sleeps_first: bool, end: impl Fn(&Daemon, &mut Process)) {
     let folder = Folder::new();
     let daemon = Daemon::start(&folder);

@@ -1,5 +1,5 @@
-//! The daemon as a program: each test starts one with a folder of its own, talks to it by packets, and
-//! replays what it has recorded.
+//! The daemon as a program: each test starts one with a folder of its own, talks to it by packets,
+//! and replays what it has recorded.
 
 mod attack;
 mod client;

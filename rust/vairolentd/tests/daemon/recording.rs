@@ -125,8 +125,8 @@ fn call_until_killed(folder: &Folder, daemon: Daemon, after: Duration) -> usize 
     answered
 }
 
-/// How many calls a file has: each is an event of kind 10, which no beginning has. Its lines are the
-/// first of those that it replays to; the last may be missing.
+/// How many calls a file has: each is an event of kind 10, which no beginning has. Its lines are
+/// the first of those that it replays to; the last may be missing.
 fn calls(run: &Run) -> usize {
     assert!(run.replayed().starts_with(&run.lines), "{}", run.name);
     let calls = run.bodies().iter().filter(|body| body[0] == 10).count();

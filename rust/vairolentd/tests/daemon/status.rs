@@ -24,6 +24,33 @@ fn list(text: &str, title: &str) -> Vec<Vec<String>> {
     rows.map(|line| line.split_whitespace().map(str::to_string).collect()).collect()
 }
 
+fn check_sets(text: &str) {
+    let wanted = [["0x00000000", "0", "600", "2"], ["0x00005eed", "1", "640", "1"]];
+    let mut sets = list(text, "Semaphore Arrays");
+    // The owner is the name of whoever runs this.
+    sets.iter_mut().for_each(|set| drop(set.remove(2)));
+    assert_eq!(sets, wanted, "{text}");
+}
+
+/// The first two are set and untouched; the last was given to by this process.
+fn check_semaphores(text: &str, pid: &str) {
+    let wanted = [
+        ["0", "0", "3", "0", "1", "0"],
+        ["0", "1", "0", "1", "0", "0"],
+        ["1", "0", "7", "0", "0", pid],
+    ];
+    assert_eq!(list(text, "Semaphores"), wanted, "{text}");
+}
+
+fn check_sleepers(text: &str, pid: &str) {
+    let sleepers = list(text, "Sleepers");
+    assert_eq!(sleepers.len(), 2, "{text}");
+    assert_eq!(sleepers[0], [pid, "0", "1", "increase", "-"]);
+    assert_eq!(sleepers[1][..5], [pid, "0", "0", "zero", "in"]);
+    let left: u32 = sleepers[1][5].parse().expect("milliseconds");
+    assert!((40_000..=60_000).contains(&left), "{left}");
+}
+
 #[test]
 fn it_lists_what_was_done() {
     let folder = Folder::new();
@@ -44,27 +71,10 @@ fn it_lists_what_was_done() {
     let (status, text, said) = ask(&folder);
     assert_eq!((status, said), (Some(0), String::new()));
     let pid = process::id().to_string();
-    let sets = list(&text, "Semaphore Arrays");
-    assert_eq!(sets.len(), 2, "{text}");
-    assert_eq!(
-        [&sets[0][0], &sets[0][1], &sets[0][3], &sets[0][4]],
-        ["0x00000000", "0", "600", "2"]
-    );
-    assert_eq!(
-        [&sets[1][0], &sets[1][1], &sets[1][3], &sets[1][4]],
-        ["0x00005eed", "1", "640", "1"]
-    );
-    let semaphores = list(&text, "Semaphores");
-    let wanted = [["0", "0", "3", "0", "1", "0"], ["0", "1", "0", "1", "0", "0"]];
-    assert_eq!(semaphores[..2], wanted, "{text}");
-    assert_eq!(semaphores[2..], [["1", "0", "7", "0", "0", &pid]], "{text}");
-    let sleepers = list(&text, "Sleepers");
-    assert_eq!(sleepers[0], [&pid, "0", "1", "increase", "-"]);
-    assert_eq!(sleepers[1][..5], [&pid, "0", "0", "zero", "in"]);
-    let left: u32 = sleepers[1][5].parse().expect("milliseconds");
-    assert!((40_000..=60_000).contains(&left), "{left}");
+    check_sets(&text);
+    check_semaphores(&text, &pid);
+    check_sleepers(&text, &pid);
     assert!(text.contains("000001.run\n"), "{text}");
-
     assert_eq!(client.control(1, 0, GET_PID, &[]).value.to_string(), pid);
     assert!(daemon.replay(&folder) >= 7);
 }
