@@ -24,6 +24,7 @@ static void calls(const char *what, int set)
     puts(what);
     say("alter", operate(set, 0, 1, 0));
     say("alter with undo", operate(set, 0, 1, SEM_UNDO));
+    say("alter one that is not there", operate(set, 1, 1, 0));
     say("wait for zero", operate(set, 0, 0, IPC_NOWAIT));
     say("GETVAL", get_value(set, 0));
     say("GETALL", semctl(set, 0, GETALL, (union semun){.array = all}));

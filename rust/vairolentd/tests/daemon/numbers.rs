@@ -4,6 +4,7 @@
 use vairolent::Operation;
 
 use crate::client::{operate, Client, EAGAIN, EINTR, EINVAL, ENOSPC, FOREVER};
+use crate::client::{REMOVE, SET_ALL, SET_VALUE};
 use crate::daemon::Daemon;
 use crate::folder::Folder;
 use crate::process::Process;
@@ -88,4 +89,21 @@ fn an_account_of_nothing_keeps_no_number() {
     let _process = Process::with(folder.socket(), others);
     client.see_asleep(7);
     assert!(daemon.replay(&folder) >= 11);
+}
+
+/// A setting or a removal forgets adjustments, and with them who held them.
+#[test]
+fn what_is_forgotten_keeps_no_number() {
+    for (command, data) in [(SET_VALUE, &[3, 0, 0, 0][..]), (SET_ALL, &[3, 0]), (REMOVE, &[])] {
+        let folder = Folder::new();
+        let daemon = Daemon::start(&folder);
+        let client = Client::new(&folder);
+        let [set, other] = [1, 1].map(|count| client.make(count));
+        assert_eq!(client.operate(set, &[Operation::new(0, 2).undo()]), 0);
+        assert_eq!(client.control(set, 0, command, data).code, 0);
+        let others = vec![operate(other, FOREVER, &[TAKE]); 7];
+        let _process = Process::with(folder.socket(), others);
+        client.see_asleep(7);
+        assert!(daemon.replay(&folder) >= 11);
+    }
 }
