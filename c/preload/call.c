@@ -29,7 +29,7 @@ size_t call(struct request request, const void *data, size_t length, struct repl
     int socket;
     load();
     struct held before = signals_hold();
-    operate_end();
+    operate_end_outside();
     memset(reply, 0, sizeof *reply);
     packet_fill(&packet, &request, data, length);
     reply->answer.code = packet_send(&packet, &socket);

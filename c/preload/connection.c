@@ -95,6 +95,15 @@ void connection_close(void)
     signals_release(&before);
 }
 
+void connection_leave(void)
+{
+    struct held before = signals_hold();
+    if (mine.process == process() && is_ours())
+        kernel_shutdown(mine.descriptor);
+    mine.descriptor = -1;
+    signals_release(&before);
+}
+
 /* If a later destructor of the thread makes a call, it connects anew, and this is run again. */
 static void close_of_thread(void *unused)
 {

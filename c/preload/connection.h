@@ -18,6 +18,9 @@ bool connection_is(int descriptor);
 /* Closes it, unless the program has done so. */
 void connection_close(void);
 
+/* Shuts it down and forgets it, but leaves its descriptor open. */
+void connection_leave(void);
+
 /* The daemon went away during a call, or turns us away. */
 void connection_lost(void);
 

@@ -19,7 +19,10 @@ struct answer operate(const struct request *request, const void *data, size_t le
 /* If the thread was interrupted in an operate that was sent, ends it: its answer is there from then on. errno stays. */
 void operate_end(void);
 
-/* Calls a handler when that is done. */
+/* The same for a call that the thread makes in a handler which was entered past us. */
+void operate_end_outside(void);
+
+/* Calls a handler when its operate has ended. */
 void operate_enter(void (*handler)(int, siginfo_t *, void *), int number, siginfo_t *info, void *context);
 
 #endif

@@ -8,7 +8,7 @@
 #include "memory.h"
 #include "operate.h"
 
-enum { OPERATIONS = 32, NANOSECONDS = 1000000000, COMMAND_64 = 0x100 };
+enum { OPERATIONS = 32, NANOSECONDS = 1000000000 };
 
 static struct answer refused(int code)
 {
@@ -134,9 +134,9 @@ static struct answer set_status(const int32_t words[3], const void *buffer)
 
 struct answer semaphores_control(int id, int number, int command, void *argument)
 {
-    const int32_t words[3] = {id, number, command & ~COMMAND_64};
+    const int32_t words[3] = {id, number, command};
     const int32_t value = (int32_t)(intptr_t)argument;
-    switch (words[2]) {
+    switch (command) {
     case SETVAL:
         return plain(words, &value, sizeof value);
     case SETALL:

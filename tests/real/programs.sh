@@ -1,7 +1,7 @@
 # The real programs that tools/check-real runs: where each comes from, what it runs and does, and its version. To be sourced,
 # with the repository's folder in root.
-names=(perl python php fakeroot ipc stress-ng apache)
-cases=$root/tests/real
+names=(perl python php fakeroot ipc stress-ng apache seats)
+cases=$root/tests/real programs=$root/target/programs
 nobody=(setpriv --reuid nobody --regid nogroup --clear-groups)
 
 # Brings what a name needs. A Python module is no command, so tools/need does not see that it is missing.
@@ -15,6 +15,7 @@ bring() { # NAME
     ipc) "$need" ipcmk util-linux ;;
     stress-ng) "$need" stress-ng stress-ng ;;
     apache) "$need" apache2 apache2-bin && "$need" ab apache2-utils ;;
+    seats) "$need" cc gcc libc6-dev && mkdir -p "$programs" && cc -std=gnu11 -O2 -o "$programs/seats" "$root/c/programs/seats/seats.c" ;;
     esac
 }
 
@@ -40,6 +41,8 @@ describe() { # NAME
         did="its semaphore test with \`--verify\`, two workers of three processes, 20,000 rounds" ;;
     apache) command=("${nobody[@]}" bash "$cases/apache.sh") least=4000 \
         did="prefork with \`Mutex sysvsem\` under load, while 40 workers are killed by SIGKILL; then 2,000 requests" ;;
+    seats) command=("$programs/seats" 5000) least=10000 \
+        did="six workers take three seats; 5,000 are killed by SIGKILL at random, the seats counted after each" ;;
     esac
 }
 
@@ -52,6 +55,7 @@ version() { # NAME
     fakeroot) fakeroot-sysv --version | sed 's/ version/-sysv/' ;;
     ipc) ipcs --version | sed 's/ipcs from //' ;;
     stress-ng) stress-ng --version | sed 's/, version//; s/ (.*//' ;;
+    seats) echo "\`c/programs/seats\`" ;;
     apache) apache2 -v | sed -n 's/Server version: \([^ ]*\).*/\1/p' ;;
     esac
 }
