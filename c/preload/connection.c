@@ -32,6 +32,7 @@ struct connection {
 
 /* In the room that every thread has from its start, which a signal handler can use too. */
 static __thread struct connection mine __attribute__((tls_model("initial-exec"))) = {.descriptor = -1};
+static __thread int left __attribute__((tls_model("initial-exec"))) = -1;
 static struct sockaddr_un address = {.sun_family = AF_UNIX};
 static pthread_key_t at_thread_end;
 
@@ -88,9 +89,18 @@ static void close_mine(void)
     mine.descriptor = -1;
 }
 
+void connection_let_go(int descriptor)
+{
+    if (left < 0 || left != descriptor)
+        return;
+    kernel_close(left);
+    left = -1;
+}
+
 void connection_close(void)
 {
     struct held before = signals_hold();
+    connection_let_go(left);
     close_mine();
     signals_release(&before);
 }
@@ -98,8 +108,11 @@ void connection_close(void)
 void connection_leave(void)
 {
     struct held before = signals_hold();
-    if (mine.process == process() && is_ours())
+    connection_let_go(left);
+    if (mine.process == process() && is_ours()) {
         kernel_shutdown(mine.descriptor);
+        left = mine.descriptor;
+    }
     mine.descriptor = -1;
     signals_release(&before);
 }

@@ -18,8 +18,12 @@ bool connection_is(int descriptor);
 /* Closes it, unless the program has done so. */
 void connection_close(void);
 
-/* Shuts it down and forgets it, but leaves its descriptor open. */
+/* Shuts it down and makes another for the next call, but leaves its descriptor open for a call that still receives by
+ * it, should that come back; one such is kept. */
 void connection_leave(void);
+
+/* That call has come back. */
+void connection_let_go(int descriptor);
 
 /* The daemon went away during a call, or turns us away. */
 void connection_lost(void);

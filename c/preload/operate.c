@@ -3,7 +3,6 @@
 
 #include <errno.h>
 #include <stdatomic.h>
-#include <stdbool.h>
 #include <ucontext.h>
 
 #include "connection.h"
@@ -20,7 +19,6 @@ static __thread struct {
     struct iovec place;
     struct mmsghdr received;
     int socket;
-    bool is_left; /* the socket is shut down, and ours to close */
 } mine __attribute__((tls_model("initial-exec")));
 
 /* Receives one packet, recvmmsg(socket, packet, 1, 0, NULL), unless its msg_len says that it is there. A handler may end
@@ -110,7 +108,6 @@ void operate_end_outside(void)
     if (mine.packet.header.msg_len == 0)
         return;
     operate_end();
-    mine.is_left = true;
     connection_leave();
 }
 
@@ -122,11 +119,9 @@ struct answer operate(const struct request *request, const void *data, size_t le
     packet_fill(&mine.packet, request, data, length);
     mine.place = (struct iovec){&mine.answer, sizeof mine.answer};
     mine.received = (struct mmsghdr){.msg_hdr = {.msg_iov = &mine.place, .msg_iovlen = 1}};
-    mine.is_left = false;
     int error = packet_send(&mine.packet, &mine.socket);
     struct answer answer = error == 0 ? answered() : (struct answer){error, 0};
-    if (mine.is_left)
-        kernel_close(mine.socket);
+    connection_let_go(mine.socket);
     mine.packet.header.msg_len = 0;
     atomic_signal_fence(memory_order_seq_cst); /* a handler may come between, and must not find it under way */
     mine = outside;
