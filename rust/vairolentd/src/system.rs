@@ -194,17 +194,12 @@ impl Socket {
 
     /// The process at the other end; where the kernel cannot tell it by the socket, by its pid.
     pub fn peer_process(&self, pid: i32) -> io::Result<ProcessHandle> {
-        const PIDFD_OPEN: i64 = 434;
         const NO_SUCH_OPTION: i32 = 92;
-        let descriptor = match self.option::<1>(77) {
-            Ok([descriptor]) => Ok(descriptor),
-            Err(error) if error.raw_os_error() == Some(NO_SUCH_OPTION) => {
-                // SAFETY: it takes two numbers.
-                checked(unsafe { syscall(PIDFD_OPEN, pid, 0) } as i32)
-            }
+        match self.option::<1>(77) {
+            Ok([descriptor]) => owned(descriptor).map(ProcessHandle),
+            Err(error) if error.raw_os_error() == Some(NO_SUCH_OPTION) => ProcessHandle::of(pid),
             Err(error) => Err(error),
-        };
-        owned(descriptor?).map(ProcessHandle)
+        }
     }
 }
 
@@ -212,6 +207,12 @@ impl Socket {
 pub struct ProcessHandle(OwnedFd);
 
 impl ProcessHandle {
+    fn of(pid: i32) -> io::Result<ProcessHandle> {
+        const PIDFD_OPEN: i64 = 434;
+        // SAFETY: it takes two numbers.
+        owned(unsafe { syscall(PIDFD_OPEN, pid, 0) } as i32).map(ProcessHandle)
+    }
+
     pub fn has_ended(&self) -> bool {
         ProcessHandle::some_ended(&[self])
     }
@@ -386,5 +387,33 @@ pub fn raise_descriptors() {
             limit.soft = limit.hard;
             setrlimit(DESCRIPTORS, &limit);
         }
+    }
+}
+
+#[cfg(test)]
+mod tests {
+    use super::*;
+    use std::process::Command;
+
+    /// The way of kernels that cannot tell a process by its socket.
+    #[test]
+    fn the_end_of_a_process_is_told_by_its_pid() {
+        let mut child = Command::new("sleep").arg("60").spawn().expect("started");
+        let pid = child.id() as i32;
+        let handle = ProcessHandle::of(pid).expect("it lives");
+        let own = ProcessHandle::of(std::process::id() as i32).expect("it lives");
+        assert!(!handle.has_ended() && !ProcessHandle::some_ended(&[&own, &handle]));
+        child.kill().expect("killed");
+        child.wait().expect("reaped");
+        assert!(handle.has_ended() && ProcessHandle::some_ended(&[&own, &handle]));
+        assert!(!own.has_ended());
+        assert!(ProcessHandle::of(pid).is_err(), "it is gone");
+    }
+
+    #[test]
+    fn a_path_has_to_fit() {
+        assert!(address(Path::new("")).is_err());
+        assert!(address(Path::new(&"a".repeat(107))).is_ok());
+        assert!(address(Path::new(&"a".repeat(108))).is_err());
     }
 }
