@@ -121,7 +121,7 @@ mod tests {
     }
 
     fn caller(user: u32, group: u32) -> Caller {
-        Caller { process: ProcessId(1), pid: 1, user, group, groups: [5].into() }
+        Caller { process: ProcessId(1), pid: 1, user, group, groups: vec![5].into() }
     }
 
     /// One class alone counts, the first that fits; user 0 passes.
