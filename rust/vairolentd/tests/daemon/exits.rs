@@ -46,3 +46,21 @@ fn a_process_that_ended_meanwhile_gives_back() {
     gives_back(false, meanwhile);
     gives_back(true, meanwhile);
 }
+
+/// A call that was sent, and whose process has ended before the daemon came to it, is not done.
+#[test]
+fn what_a_dead_process_left_behind_is_dropped() {
+    let folder = Folder::new();
+    let daemon = Daemon::start(&folder);
+    let client = Client::new(&folder);
+    let set = client.make(1);
+    assert_eq!(client.operate(set, &[Operation::new(0, 5)]), 0);
+    let left = || vec![operate(set, FOREVER, &[Operation::new(0, -2)])];
+    let mut process = None;
+    daemon.standing_still(|| {
+        process.insert(Process::with(folder.socket(), left())).leave_dead();
+    });
+    // By the second answer the daemon has looked at all that was there before the first.
+    assert_eq!([0; 3].map(|number| client.value(set, number)), [5; 3]);
+    assert!(daemon.replay(&folder) >= 5);
+}

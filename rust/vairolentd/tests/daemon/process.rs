@@ -1,10 +1,13 @@
 //! Another process, which calls and then stays.
 
+use std::fs;
 use std::os::unix::process::CommandExt;
 use std::path::PathBuf;
 use std::process::{Child, Command, Stdio};
 
 use vairolentd::system::{Readable, Socket};
+
+use crate::daemon::until;
 
 extern "C" {
     fn dup(descriptor: i32) -> i32;
@@ -33,6 +36,13 @@ impl Process {
 
     pub fn pid(&self) -> u32 {
         self.0.id()
+    }
+
+    /// Kills it, and does not reap it yet.
+    pub fn leave_dead(&mut self) {
+        let stat = format!("/proc/{}/stat", self.pid());
+        let _ = self.0.kill();
+        until("dead", || fs::read_to_string(&stat).map_or(false, |text| text.contains(") Z ")));
     }
 
     pub fn kill(&mut self) {
