@@ -4,11 +4,12 @@
 #include <errno.h>
 #include <stdbool.h>
 
+#include "../vairolent.h"
 #include "call.h"
 #include "memory.h"
 #include "operate.h"
 
-enum { OPERATIONS = 32, NANOSECONDS = 1000000000 };
+enum { OPERATIONS = VAIROLENT_OPERATIONS, NANOSECONDS = 1000000000 };
 
 static struct answer refused(int code)
 {

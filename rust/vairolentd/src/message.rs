@@ -1,7 +1,7 @@
 //! What a program and the daemon say to each other, one packet each; `c/preload/protocol.h` says the
 //! same for the program's side.
 
-use vairolent::Operation;
+use vairolent::{Operation, OPERATIONS};
 
 use crate::errno::Errno;
 
@@ -10,8 +10,8 @@ const VERSION: u16 = 1;
 /// Bytes ahead of a request's data: version, kind, three words, wait.
 const HEAD: usize = 24;
 
-/// A packet that is longer is none: 33 operations are one more than any call may have.
-pub const LONGEST: usize = HEAD + 33 * 6;
+/// A packet that is longer is none: it has one operation more than any call may have.
+pub const LONGEST: usize = HEAD + (OPERATIONS + 1) * 6;
 
 /// A call of a program, or what it has to say of one that sleeps.
 #[derive(Debug, PartialEq, Eq)]
@@ -136,7 +136,7 @@ mod tests {
 
     #[test]
     fn what_is_no_request_is_refused() {
-        let good = packet(2, [4, 0, 0], -1, &[0; 33 * 6]);
+        let good = packet(2, [4, 0, 0], -1, &[0; (OPERATIONS + 1) * 6]);
         assert!(Request::read(&good).is_ok());
         for length in (0..HEAD).chain([HEAD + 1, HEAD + 5]) {
             assert!(Request::read(&good[..length]).is_err(), "{length}");
