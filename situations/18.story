@@ -1,6 +1,6 @@
 6 events
 
-event 0: create a set of 2 semaphores, for all to read and alter
+event 0: process 8 creates a set of 2 semaphores, mode rw-rw-rw-
   line    0 0 0 0
   answer  done (0), the set's identifier is 0
   values  set 0: 0 0
@@ -18,7 +18,7 @@ event 2: process 2 on set 0: take 2 from semaphore 1; add 1 to semaphore 0, 30 t
   values  set 0: 0 0
   waits   set 0, semaphore 1: 2 for increase, 0 for zero
 
-event 3: set semaphore 1 of set 0 to 3
+event 3: process 8 sets semaphore 1 of set 0 to 3
   line    3 0 0 2 1=0 2=34@31
   answer  done (0), 2 looks
   wakes   process 1: done (0)
@@ -26,12 +26,12 @@ event 3: set semaphore 1 of set 0 to 3
           32767 is above 32767
   values  set 0: 31 2
 
-event 4: query semaphore 0 of set 0
+event 4: process 8 queries semaphore 0 of set 0
   line    4 0 31 1 0 0
   answer  done (0), value 31, last process 1, waiting 0 for increase, 0 for zero
   values  set 0: 31 2
 
-event 5: query semaphore 1 of set 0
+event 5: process 8 queries semaphore 1 of set 0
   line    5 0 2 1 0 0
   answer  done (0), value 2, last process 1, waiting 0 for increase, 0 for zero
   values  set 0: 31 2

@@ -1,6 +1,6 @@
 9 events
 
-event 0: create a set of 1 semaphore, for all to read and alter
+event 0: process 8 creates a set of 1 semaphore, mode rw-rw-rw-
   line    0 0 0 0
   answer  done (0), the set's identifier is 0
   values  set 0: 0
@@ -29,7 +29,7 @@ event 4: the time is 1249 ms
   values  set 0: 0
   waits   set 0, semaphore 0: 2 for increase, 0 for zero
 
-event 5: read all of set 0
+event 5: process 8 reads all of set 0
   line    5 0 0 2 0
   answer  done (0); semaphore 0: value 0, waiting 2 for increase, 0 for zero
   values  set 0: 0
@@ -42,7 +42,7 @@ event 6: the time is 1250 ms
   values  set 0: 0
   waits   set 0, semaphore 0: 1 for increase, 0 for zero
 
-event 7: read all of set 0
+event 7: process 8 reads all of set 0
   line    7 0 0 1 0
   answer  done (0); semaphore 0: value 0, waiting 1 for increase, 0 for zero
   values  set 0: 0

@@ -1,11 +1,11 @@
 9 events
 
-event 0: create a set of 1 semaphore, for all to read and alter
+event 0: process 8 creates a set of 1 semaphore, mode rw-rw-rw-
   line    0 0 0 0
   answer  done (0), the set's identifier is 0
   values  set 0: 0
 
-event 1: create a set of 1 semaphore, for all to read and alter
+event 1: process 8 creates a set of 1 semaphore, mode rw-rw-rw-
   line    1 0 1 0
   answer  done (0), the set's identifier is 1
   values  set 0: 0
@@ -45,14 +45,14 @@ event 5: the time is 600 ms
   values  set 1: 0
   waits   set 1, semaphore 0: 1 for increase, 0 for zero
 
-event 6: read all of set 0
+event 6: process 8 reads all of set 0
   line    6 0 0 0 0
   answer  done (0); semaphore 0: value 0
   values  set 0: 0
   values  set 1: 0
   waits   set 1, semaphore 0: 1 for increase, 0 for zero
 
-event 7: read all of set 1
+event 7: process 8 reads all of set 1
   line    7 0 0 1 0
   answer  done (0); semaphore 0: value 0, waiting 1 for increase, 0 for zero
   values  set 0: 0

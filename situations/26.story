@@ -1,6 +1,6 @@
 8 events
 
-event 0: create a set of 2 semaphores, for all to read and alter
+event 0: process 8 creates a set of 2 semaphores, mode rw-rw-rw-
   line    0 0 0 0
   answer  done (0), the set's identifier is 0
   values  set 0: 0 0
@@ -34,7 +34,7 @@ event 5: process 1 on set 0, waiting 0 ms at most: take 1 from semaphore 1; wait
   answer  refused: EFBIG (27), the set has no such semaphore
   values  set 0: 1 0
 
-event 6: read all of set 0
+event 6: process 8 reads all of set 0
   line    6 0 1 0 0 0 0 0
   answer  done (0); semaphore 0: value 1; semaphore 1: value 0
   values  set 0: 1 0

@@ -1,6 +1,6 @@
 12 events
 
-event 0: create a set of 1 semaphore, for all to read and alter
+event 0: process 8 creates a set of 1 semaphore, mode rw-rw-rw-
   line    0 0 0 0
   answer  done (0), the set's identifier is 0
   values  set 0: 0

@@ -1,11 +1,11 @@
 5 events
 
-event 0: create a set of 1 semaphore, for all to read and alter
+event 0: process 1 creates a set of 1 semaphore, mode rw-rw-rw-
   line    0 0 0 0
   answer  done (0), the set's identifier is 0
   values  set 0: 0
 
-event 1: set semaphore 0 of set 0 to 1
+event 1: process 1 sets semaphore 0 of set 0 to 1
   line    1 0 0 0
   answer  done (0), 0 looks
   values  set 0: 1

@@ -32,12 +32,12 @@ int main(void)
     struct sembuf give[TABLES] = {{SPINS, 1, SEM_UNDO}, {PRICES, 1, SEM_UNDO}};
     struct sembuf attempt[TABLES] = {{SPINS, -1, SEM_UNDO | IPC_NOWAIT}, {PRICES, -1, SEM_UNDO | IPC_NOWAIT}};
     host = vairolent_fresh();
-    struct vairolent_told made = vairolent_create(&host, TABLES, VAIROLENT_ALL, VAIROLENT_ALL);
+    struct vairolent_told made = vairolent_create(&host, 1, TABLES, 0666);
     if (made.code != 0)
         return EXIT_FAILURE;
     int set = (int)made.value;
-    tell("the spins are free", vairolent_set_value(&host, set, SPINS, 1));
-    tell("the prices are free", vairolent_set_value(&host, set, PRICES, 1));
+    tell("the spins are free", vairolent_set_value(&host, 1, set, SPINS, 1));
+    tell("the prices are free", vairolent_set_value(&host, 1, set, PRICES, 1));
 
     tell("predictor 1 takes the prices", vairolent_operate(&host, 1, set, &take[PRICES], 1));
     tell("predictor 2 takes both tables", vairolent_operate(&host, 2, set, take, TABLES));
@@ -45,6 +45,6 @@ int main(void)
     tell("predictor 1 dies", vairolent_exit(&host, 1));
     tell("predictor 2 gives both back", vairolent_operate(&host, 2, set, give, TABLES));
 
-    struct vairolent_queried seen = vairolent_query(&host, set, PRICES);
+    struct vairolent_queried seen = vairolent_query(&host, 3, set, PRICES);
     printf("the prices: value %d, last predictor %d\n", seen.value, seen.last);
 }

@@ -8,10 +8,13 @@
 /* Prices one at a time, and a bill when no prediction is left. */
 enum { PRICING, PREDICTIONS, SEMAPHORES };
 
+/* The reviewer is a process too, and never asleep. */
+enum { REVIEWER = 8 };
+
 static void show(const struct vairolent_host *host, int set)
 {
     static const char *const names[SEMAPHORES] = {"pricing", "predictions"};
-    struct vairolent_queried_set seen = vairolent_query_set(host, set);
+    struct vairolent_queried_set seen = vairolent_query_set(host, REVIEWER, set);
     if (seen.code != 0)
         exit(EXIT_FAILURE);
     for (int i = 0; i < seen.count; i++)
@@ -34,13 +37,13 @@ static void operate(struct vairolent_host *host, uint8_t process, int set, unsig
 int main(void)
 {
     struct vairolent_host host = vairolent_fresh();
-    struct vairolent_told told = vairolent_create(&host, SEMAPHORES, VAIROLENT_ALL, VAIROLENT_ALL);
+    struct vairolent_told told = vairolent_create(&host, 1, SEMAPHORES, 0666);
     if (told.code != 0)
         return EXIT_FAILURE;
     int set = (int)told.value;
     /* Both at once, so that nobody is woken between them. */
     int32_t start[SEMAPHORES] = {[PRICING] = 1, [PREDICTIONS] = 1};
-    if (vairolent_set_all(&host, set, start, SEMAPHORES).code != 0)
+    if (vairolent_set_all(&host, 1, set, start, SEMAPHORES).code != 0)
         return EXIT_FAILURE;
 
     for (uint8_t process = 1; process <= 3; process++)

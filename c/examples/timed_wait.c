@@ -6,7 +6,8 @@
 
 #include "vairolent.h"
 
-enum { DEAD = 1, PREDICTORS = 4, TICK = 500 };
+/* The keeper never sleeps: a process that sleeps cannot look who waits. */
+enum { DEAD = 1, PREDICTORS = 4, KEEPER = 8, TICK = 500 };
 
 static struct vairolent_host host;
 
@@ -29,9 +30,9 @@ int main(void)
     /* The table's semaphore is 1 while it is free. With SEM_UNDO an exit gives the table back. */
     struct sembuf take = {.sem_num = 0, .sem_op = -1, .sem_flg = SEM_UNDO};
     host = vairolent_fresh();
-    struct vairolent_told told = vairolent_create(&host, 1, VAIROLENT_ALL, VAIROLENT_ALL);
+    struct vairolent_told told = vairolent_create(&host, KEEPER, 1, 0666);
     int set = (int)told.value;
-    if (told.code != 0 || vairolent_set_value(&host, set, 0, 1).code != 0)
+    if (told.code != 0 || vairolent_set_value(&host, KEEPER, set, 0, 1).code != 0)
         return EXIT_FAILURE;
 
     for (uint8_t process = 1; process <= PREDICTORS; process++) {
@@ -42,7 +43,7 @@ int main(void)
     /* A host tells the time again and again: a real one by clock_gettime(CLOCK_MONOTONIC), as often as it wants to know
      * who gives up. Here the time goes by in ticks. Nobody knows yet that the first predictor is dead. */
     uint64_t now = 0;
-    while (vairolent_query(&host, set, 0).increase > 1) {
+    while (vairolent_query(&host, KEEPER, set, 0).increase > 1) {
         now += TICK;
         go_on(now, vairolent_clock(&host, now));
     }

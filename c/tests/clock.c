@@ -9,7 +9,7 @@ static void begin(uint64_t time)
 {
     host = vairolent_fresh();
     for (int32_t set = 0; set < VAIROLENT_SETS; set++)
-        vairolent_create(&host, 2, VAIROLENT_ALL, VAIROLENT_ALL);
+        vairolent_create(&host, 1, 2, 0666);
     want("the first time", vairolent_clock(&host, time).code, 0);
 }
 
@@ -63,8 +63,8 @@ static void order(void)
     ends("nobody yet", 16, "");
     sleeps(5, 0, 1);
     ends("four of six", 37, "6815");
-    want("who sleeps on", vairolent_query(&host, 0, 0).increase_mask, 2 + 8);
-    want("who sleeps elsewhere", vairolent_query(&host, 3, 0).increase, 0);
+    want("who sleeps on", vairolent_query(&host, 7, 0, 0).increase_mask, 2 + 8);
+    want("who sleeps elsewhere", vairolent_query(&host, 7, 3, 0).increase, 0);
     ends("the last with a wait", 97, "2");
     ends("the last time", VAIROLENT_TIME_MAX, "");
     told_is("who has none", operate(4, 0, 0, -1, 0), EBUSY, NONE);
@@ -131,7 +131,7 @@ static void no_time_at_all(void)
     refused("would sleep at the third", before, vairolent_operate_within(&host, 1, 0, COUNTED(stops), 0), EAGAIN, 2);
     refused("out of range", before, vairolent_operate_within(&host, 1, 0, COUNTED(over), 0), ERANGE, 1);
     told_is("done", vairolent_operate_within(&host, 1, 0, COUNTED(done), 0), 0, NONE);
-    want("the value", vairolent_query(&host, 0, 0).value, 1);
+    want("the value", vairolent_query(&host, 8, 0, 0).value, 1);
     told_is("the process is awake", operate(1, 0, 0, -1, 0), 0, NONE);
 }
 
@@ -141,7 +141,9 @@ static void checks(void)
     static const struct sembuf far = OPERATION(2, -1, 0), many[VAIROLENT_OPERATIONS + 1] = {OPERATION(0, -1, 0)};
     for (uint32_t wait = 0; wait < 2; wait++) {
         host = vairolent_fresh();
-        vairolent_create(&host, 2, 6, 2);
+        vairolent_act_as(&host, 1, 8, 8);
+        vairolent_act_as(&host, 2, 7, 7);
+        vairolent_create(&host, 2, 2, 0604);
         sleeps(2, 0, 9);
         struct vairolent_host before = host;
         refused("no such process", before, take_within(9, 0, wait), ESRCH, NONE);
@@ -150,7 +152,7 @@ static void checks(void)
         refused("too many", before, vairolent_operate_within(&host, 1, 0, COUNTED(many), wait), E2BIG, NONE);
         refused("no such set", before, take_within(1, 1, wait), EINVAL, NONE);
         refused("no such semaphore", before, vairolent_operate_within(&host, 1, 0, &far, 1, wait), EFBIG, NONE);
-        refused("not permitted", before, take_within(3, 0, wait), EACCES, NONE);
+        refused("not permitted", before, take_within(1, 0, wait), EACCES, NONE);
     }
 }
 
@@ -162,15 +164,15 @@ static void woken_in_time(void)
     sleeps(3, 0, 5);
     told_is("one is added", operate(8, 0, 0, 1, 0), 0, NONE);
     waking_is("it is done", 0, 3, 0, NONE);
-    want("the last process", vairolent_query(&host, 0, 0).last, 3);
+    want("the last process", vairolent_query(&host, 8, 0, 0).last, 3);
     ends("its wait is gone", 55, "");
     told_is("asleep at 55", vairolent_operate_within(&host, 4, 0, COUNTED(nowait), 10), VAIROLENT_ASLEEP, 0);
     ends("nobody yet", 60, "");
-    want("a look", (long long)vairolent_set_value(&host, 0, 0, 0).looks, 1);
+    want("a look", (long long)vairolent_set_value(&host, 8, 0, 0, 0).looks, 1);
     ends("the look began no wait", 65, "4");
     told_is("asleep at 65", vairolent_operate_within(&host, 4, 0, COUNTED(nowait), 10), VAIROLENT_ASLEEP, 0);
-    told_is("a value", vairolent_set_value(&host, 0, 1, 1), 0, NONE);
-    told_is("another", vairolent_set_value(&host, 0, 0, 1), 0, NONE);
+    told_is("a value", vairolent_set_value(&host, 8, 0, 1, 1), 0, NONE);
+    told_is("another", vairolent_set_value(&host, 8, 0, 0, 1), 0, NONE);
     waking_is("EAGAIN by a look has a position", 0, 4, EAGAIN, 1);
 }
 
@@ -183,7 +185,7 @@ static void ended_otherwise(void)
     sleeps(3, 2, 5);
     vairolent_signal(&host, 1);
     waking_is("a signal", 0, 1, EINTR, NONE);
-    vairolent_remove(&host, 1);
+    vairolent_remove(&host, 8, 1);
     waking_is("a removal", 0, 2, EIDRM, NONE);
     want("an exit", (long long)vairolent_exit(&host, 3).woken, 0);
     for (uint8_t process = 1; process <= 3; process++)
@@ -203,7 +205,7 @@ static void nothing_else(void)
     memcpy(adjustments, host.adjustments, sizeof adjustments);
     ends("one of two", 4, "5");
     want("the adjustments", memcmp(adjustments, host.adjustments, sizeof adjustments), 0);
-    struct vairolent_queried_set seen = vairolent_query_set(&host, 0);
+    struct vairolent_queried_set seen = vairolent_query_set(&host, 8, 0);
     want("the values", seen.values[0] * 10 + seen.values[1], 20);
     want("the last processes", seen.lasts[0] * 10 + seen.lasts[1], 80);
     want("who still waits", seen.zero_masks[0], 32);

@@ -1,5 +1,6 @@
 /* Replays a run file from standard input through the library, and writes the lines that the proved program replay
  * writes: the comparison holds the two to each other. */
+#include <errno.h>
 #include <inttypes.h>
 #include <stdio.h>
 #include <string.h>
@@ -8,7 +9,8 @@
 #include "vairolent.h"
 
 enum { FILE_MAX = 65535, HEAD = 2, ENTRY = 4 };
-enum { CREATE = 1, OPERATE, SET_VALUE, REMOVE, SIGNAL, EXIT, QUERY, OPERATE_WITHIN, CLOCK, SET_ALL, READ_ALL, KINDS };
+enum { CREATE = 1, OPERATE, SET_VALUE, REMOVE, SIGNAL, EXIT, QUERY, OPERATE_WITHIN, CLOCK, SET_ALL, READ_ALL, ACT_AS };
+enum { KINDS = ACT_AS + 1 };
 enum { BAD_TABLE = 201, BAD_OFFSET, BAD_KIND, BAD_BODY };
 
 /* The most operations or values that a body counts. */
@@ -21,17 +23,18 @@ struct shape {
 };
 
 static const struct shape shapes[KINDS] = {
-    [CREATE] = {4, 0},
+    [CREATE] = {5, 0},
     [OPERATE] = {7, VAIROLENT_OPERATION_BYTES},
-    [SET_VALUE] = {11, 0},
-    [REMOVE] = {5, 0},
+    [SET_VALUE] = {12, 0},
+    [REMOVE] = {6, 0},
     [SIGNAL] = {2, 0},
     [EXIT] = {2, 0},
-    [QUERY] = {7, 0},
+    [QUERY] = {8, 0},
     [OPERATE_WITHIN] = {11, VAIROLENT_OPERATION_BYTES},
     [CLOCK] = {9, 0},
-    [SET_ALL] = {6, sizeof(int32_t)},
-    [READ_ALL] = {5, 0},
+    [SET_ALL] = {7, sizeof(int32_t)},
+    [READ_ALL] = {6, 0},
+    [ACT_AS] = {10, 0},
 };
 
 /* A run file. One byte more than the longest tells that it is too long. */
@@ -119,8 +122,8 @@ static void check_set(struct vairolent_queried_set set, uint16_t number, struct 
     for (size_t i = 0; i < VAIROLENT_SEMAPHORES; i++)
         waiting += set.increase[i] + set.zero[i];
     want("the wait counts of a set are the arrays that were judged", waiting == set.judged);
-    want("a query is refused where the whole set is, or has no such number",
-         (seen.code != 0) == (set.code != 0 || number >= set.count));
+    want("a query is refused as the whole set is, or for its number",
+         seen.code == (set.code != 0 || number < set.count ? set.code : EINVAL));
     if (seen.code != 0)
         return;
     want("the whole set shows what a query shows",
@@ -146,8 +149,8 @@ static struct vairolent_told operate(const uint8_t *body)
 static struct vairolent_told set_all(const uint8_t *body)
 {
     int32_t values[COUNTED_MAX];
-    memcpy(values, body + 6, sizeof values[0] * body[5]);
-    return vairolent_set_all(&host, signed_at(body + 1), values, body[5]);
+    memcpy(values, body + 7, sizeof values[0] * body[6]);
+    return vairolent_set_all(&host, body[1], signed_at(body + 2), values, body[6]);
 }
 
 /* Any event but a query and a read all. */
@@ -155,20 +158,23 @@ static struct vairolent_told tell(const uint8_t *body)
 {
     switch (body[0]) {
     case CREATE:
-        return vairolent_create(&host, body[1], body[2], body[3]);
+        return vairolent_create(&host, body[1], body[2], (uint16_t)number_at(body + 3, 2));
     case OPERATE:
     case OPERATE_WITHIN:
         return operate(body);
     case SET_VALUE:
-        return vairolent_set_value(&host, signed_at(body + 1), (uint16_t)number_at(body + 5, 2), signed_at(body + 7));
+        return vairolent_set_value(&host, body[1], signed_at(body + 2), (uint16_t)number_at(body + 6, 2),
+                                   signed_at(body + 8));
     case REMOVE:
-        return vairolent_remove(&host, signed_at(body + 1));
+        return vairolent_remove(&host, body[1], signed_at(body + 2));
     case SIGNAL:
         return vairolent_signal(&host, body[1]);
     case CLOCK:
         return vairolent_clock(&host, number_at(body + 1, 8));
     case SET_ALL:
         return set_all(body);
+    case ACT_AS:
+        return vairolent_act_as(&host, body[1], (uint32_t)number_at(body + 2, 4), (uint32_t)number_at(body + 6, 4));
     default:
         return vairolent_exit(&host, body[1]);
     }
@@ -205,23 +211,23 @@ static void write_queried(struct vairolent_queried seen)
              __builtin_popcount(seen.zero_mask) == (int)seen.zero);
 }
 
-static void query(int32_t identifier, uint16_t number)
+static void query(uint8_t process, int32_t identifier, uint16_t number)
 {
-    struct vairolent_queried seen = vairolent_query(&host, identifier, number);
+    struct vairolent_queried seen = vairolent_query(&host, process, identifier, number);
     write_queried(seen);
-    check_set(vairolent_query_set(&host, identifier), number, seen);
+    check_set(vairolent_query_set(&host, process, identifier), number, seen);
 }
 
 /* Every number is queried too, and one beyond the last. */
-static void read_all(int32_t identifier)
+static void read_all(uint8_t process, int32_t identifier)
 {
-    struct vairolent_queried_set set = vairolent_query_set(&host, identifier);
+    struct vairolent_queried_set set = vairolent_query_set(&host, process, identifier);
     printf(" %" PRId32, set.code);
     for (size_t i = 0; i < set.count; i++)
         printf(" %d %" PRIu32 " %" PRIu32, set.values[i], set.increase[i], set.zero[i]);
     putchar('\n');
     for (uint16_t number = 0; number <= VAIROLENT_SEMAPHORES; number++)
-        check_set(set, number, vairolent_query(&host, identifier, number));
+        check_set(set, number, vairolent_query(&host, process, identifier, number));
 }
 
 int main(void)
@@ -238,9 +244,9 @@ int main(void)
     for (size_t i = 0; i < events(); i++) {
         printf("%zu", i);
         if (body[0] == QUERY)
-            query(signed_at(body + 1), (uint16_t)number_at(body + 5, 2));
+            query(body[1], signed_at(body + 2), (uint16_t)number_at(body + 6, 2));
         else if (body[0] == READ_ALL)
-            read_all(signed_at(body + 1));
+            read_all(body[1], signed_at(body + 2));
         else
             write_told(tell(body));
         body += length_of(i);

@@ -19,7 +19,8 @@ use Rattle.model.specs.Look.{valuesOf, adjustmentsOf, look, lastsAfter, applied
 use Rattle.model.specs.Marks.{unmark, marked, namedBy, differing, mine, maskOf}
 use Rattle.model.specs.Waking.{without, finish, plainRound, quickRound, plain, quick, waker}
 use Rattle.model.specs.Clock.{atOnce}
-use Rattle.model.specs.Checks.{identifierOf, slotOf, namesSet, noProcess, asleep, numberTooHigh, permitted, freeFrom, checkCreate, checkOperate, checkNumber, inRange, checkSetValue, checkSet, checkProcess}
+use Rattle.model.specs.Checks.{identifierOf, slotOf, namesSet, noProcess, asleep, numberTooHigh, permitted, freeFrom, checkCaller, checkCreate, checkOperate}
+use Rattle.model.specs.Permission.{classBits, permits}
 use Rattle.model.specs.Events.{Result, create, operate, clearNumber, assigned, cut, undoAll, exited, keep, endedWith, doCreate, wouldSleep, operated, doOperate, doSetValue, doRemove, treat, treatFrom, touchedFrom, doExit, doQuery, event}
 
 -- one off semaphore 0, and one back
@@ -31,7 +32,7 @@ give = 0 ∷ 0 ∷ 1 ∷ 0 ∷ 0 ∷ 0 ∷ []
 
 -- the results that the definitions give for the three events
 abbrev pub created : Result
-created = event (waker Quick) freshState (create 1 255 255)
+created = event (waker Quick) freshState (create 1 1 511)
 
 abbrev pub slept : Result
 slept = event (waker Quick) (created .state) (operate 1 (pos 0) Endless take)
@@ -40,7 +41,7 @@ abbrev pub given : Result
 given = event (waker Quick) (slept .state) (operate 2 (pos 0) Endless give)
 
 pub after-create : Reached (created .state)
-after-create = came start Quick (create 1 255 255)
+after-create = came start Quick (create 1 1 511)
 
 pub after-sleep : Reached (slept .state)
 after-sleep = came after-create Quick _
@@ -55,9 +56,9 @@ module _ {s : State} (k : Reached s) {x : Host} (e : x ≡ hostOf s) where
   state : stateIn x ≡ s
   state = ap stateIn e ∙ state-back k
 
-pub is-created : {x : Host} {a : After} → x ≡ hostOf freshState → a ≡ afterOf (doCreate (stateIn x) 1 255 255) → a ≡ afterOf created
+pub is-created : {x : Host} {a : After} → x ≡ hostOf freshState → a ≡ afterOf (doCreate (stateIn x) 1 1 511) → a ≡ afterOf created
 unfolding event
-is-created e r = r ∙ ap (λ (s : State). afterOf (doCreate s 1 255 255)) (state start e)
+is-created e r = r ∙ ap (λ (s : State). afterOf (doCreate s 1 1 511)) (state start e)
 
 pub is-slept : {x : Host} {a : After} → x ≡ hostOf (created .state) → a ≡ afterOf (doOperate (waker Quick) (stateIn x) 1 (pos 0) Endless take) → a ≡ afterOf slept
 unfolding event
@@ -70,18 +71,18 @@ is-given e r = r ∙ ap (λ (s : State). afterOf (doOperate (waker Quick) s 2 (p
 -- ---- what the three events give, computed
 
 pub slept-looks : slept .looks ≡ 0
-unfolding event doCreate wouldSleep atOnce operated doOperate doSetValue doRemove treat treatFrom touchedFrom doExit doQuery identifierOf slotOf namesSet noProcess asleep numberTooHigh permitted freeFrom checkCreate checkOperate checkNumber inRange checkSetValue checkSet checkProcess clearRows cleared clearNumber assigned cut undoAll exited keep endedWith waker plain quick plainRound quickRound finish without look lastsAfter applied after valuesOf adjustmentsOf judgeFrom goOn step nextValue nextAdjustment codeOf finishes operationsFrom signed16 isZero unmark marked namedBy differing mine maskOf
+unfolding event doCreate wouldSleep atOnce operated doOperate doSetValue doRemove treat treatFrom touchedFrom doExit doQuery identifierOf slotOf namesSet noProcess asleep numberTooHigh classBits permits permitted freeFrom checkCaller checkCreate checkOperate clearRows cleared clearNumber assigned cut undoAll exited keep endedWith waker plain quick plainRound quickRound finish without look lastsAfter applied after valuesOf adjustmentsOf judgeFrom goOn step nextValue nextAdjustment codeOf finishes operationsFrom signed16 isZero unmark marked namedBy differing mine maskOf
 slept-looks = refl
 
 -- it stops at its first operation
 pub slept-position : slept .answer .position ≡ At 0
-unfolding event doCreate wouldSleep atOnce operated doOperate doSetValue doRemove treat treatFrom touchedFrom doExit doQuery identifierOf slotOf namesSet noProcess asleep numberTooHigh permitted freeFrom checkCreate checkOperate checkNumber inRange checkSetValue checkSet checkProcess clearRows cleared clearNumber assigned cut undoAll exited keep endedWith waker plain quick plainRound quickRound finish without look lastsAfter applied after valuesOf adjustmentsOf judgeFrom goOn step nextValue nextAdjustment codeOf decidedAt finishes operationsFrom signed16 isZero unmark marked namedBy differing mine maskOf
+unfolding event doCreate wouldSleep atOnce operated doOperate doSetValue doRemove treat treatFrom touchedFrom doExit doQuery identifierOf slotOf namesSet noProcess asleep numberTooHigh classBits permits permitted freeFrom checkCaller checkCreate checkOperate clearRows cleared clearNumber assigned cut undoAll exited keep endedWith waker plain quick plainRound quickRound finish without look lastsAfter applied after valuesOf adjustmentsOf judgeFrom goOn step nextValue nextAdjustment codeOf decidedAt finishes operationsFrom signed16 isZero unmark marked namedBy differing mine maskOf
 slept-position = refl
 
 pub given-looks : given .looks ≡ 1
-unfolding event doCreate wouldSleep atOnce operated doOperate doSetValue doRemove treat treatFrom touchedFrom doExit doQuery identifierOf slotOf namesSet noProcess asleep numberTooHigh permitted freeFrom checkCreate checkOperate checkNumber inRange checkSetValue checkSet checkProcess clearRows cleared clearNumber assigned cut undoAll exited keep endedWith waker plain quick plainRound quickRound finish without look lastsAfter applied after valuesOf adjustmentsOf judgeFrom goOn step nextValue nextAdjustment codeOf finishes operationsFrom signed16 isZero unmark marked namedBy differing mine maskOf
+unfolding event doCreate wouldSleep atOnce operated doOperate doSetValue doRemove treat treatFrom touchedFrom doExit doQuery identifierOf slotOf namesSet noProcess asleep numberTooHigh classBits permits permitted freeFrom checkCaller checkCreate checkOperate clearRows cleared clearNumber assigned cut undoAll exited keep endedWith waker plain quick plainRound quickRound finish without look lastsAfter applied after valuesOf adjustmentsOf judgeFrom goOn step nextValue nextAdjustment codeOf finishes operationsFrom signed16 isZero unmark marked namedBy differing mine maskOf
 given-looks = refl
 
 pub given-wakings : length (given .wakings) ≡ 1
-unfolding event doCreate wouldSleep atOnce operated doOperate doSetValue doRemove treat treatFrom touchedFrom doExit doQuery identifierOf slotOf namesSet noProcess asleep numberTooHigh permitted freeFrom checkCreate checkOperate checkNumber inRange checkSetValue checkSet checkProcess clearRows cleared clearNumber assigned cut undoAll exited keep endedWith waker plain quick plainRound quickRound finish without look lastsAfter applied after valuesOf adjustmentsOf judgeFrom goOn step nextValue nextAdjustment codeOf finishes operationsFrom signed16 isZero unmark marked namedBy differing mine maskOf
+unfolding event doCreate wouldSleep atOnce operated doOperate doSetValue doRemove treat treatFrom touchedFrom doExit doQuery identifierOf slotOf namesSet noProcess asleep numberTooHigh classBits permits permitted freeFrom checkCaller checkCreate checkOperate clearRows cleared clearNumber assigned cut undoAll exited keep endedWith waker plain quick plainRound quickRound finish without look lastsAfter applied after valuesOf adjustmentsOf judgeFrom goOn step nextValue nextAdjustment codeOf finishes operationsFrom signed16 isZero unmark marked namedBy differing mine maskOf
 given-wakings = refl

@@ -4,6 +4,7 @@
 // the first is woken. That each check below holds is proved from the events' promises alone.
 use libc::STDOUT_FILENO;
 use model::Engine;
+use model::MODE_MAX;
 use model::WAKING_BYTES;
 use model::Wait;
 use service::create;
@@ -15,7 +16,7 @@ fn main() {
     let mut host = host::fresh();
     let mut adjustments = host::no_adjustments();
     let mut wakings = [0u8; WAKING_BYTES];
-    create(&mut host, &mut adjustments, &mut wakings, 1, 255, 255);
+    create(&mut host, &mut adjustments, &mut wakings, 1, 1, MODE_MAX);
     let asleep = operate(
         &mut host,
         &mut adjustments,

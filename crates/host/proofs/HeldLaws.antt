@@ -18,8 +18,8 @@ pub state-back : {s : State} → Reached s → stateIn (hostOf s) ≡ s
 state-back {s} r =
     let i : Invariant s = reached r in
     let q : queueIn (hostOf s .row) ≡ s .queue = queue-back _ (s .queue) (queued (s .queue) (i .fits) (i .distinct)) in
-    let k : setsIn (hostOf s .row) ≡ s .sets = sets-back (record { size = i .sets; generation = refl; count = refl; read = refl; alter = refl }) in
-    ap₂ (λ (a : List Set) (b : List Sleeper). record { sets = a; table = s .table; queue = b; time = s .time }) k q
+    let k : setsIn (hostOf s .row) ≡ s .sets = sets-back (record { size = i .sets; generation = refl; count = refl; owner = refl; group = refl; mode = refl }) in
+    ap₂ (λ (a : List Set) (b : List Sleeper). record { sets = a; callers = s .callers; table = s .table; queue = b; time = s .time }) k q
 
 -- a host of a reached state
 pub held-of : {s : State} → Reached s → Held (hostOf s)

@@ -8,5 +8,6 @@ pub mod WaitLaws
 pub mod ProcessLaws
 pub mod QueueRows
 pub mod SetRows
+pub mod CallerRows
 pub mod HeldLaws
 pub mod SemaphoreLaws

@@ -10,7 +10,7 @@ use borrow.Author.Tests.{eqb-true, eqb-false, eq-eqb, ltb-true, ltb-false}
 use lib.Dec.{eqb, ltb}
 use lib.ListN.{length, getD, set, List·getD-eq-default, List·getD-map}
 use lib.Seq.{sets, set-out}
-use Rattle.host.specs.Parts.{Part, arrays, ofSets, ofTable, ofClock, ofQueue, parts, part, listed, number, Shape, shapes, placeFrom, place, behind, hostBytes, numberAt, bytesOf, Row, rowIn, with, put}
+use Rattle.host.specs.Parts.{Part, arrays, ofSets, ofCallers, ofTable, ofClock, ofQueue, parts, part, listed, number, Shape, shapes, placeFrom, place, behind, hostBytes, numberAt, bytesOf, Row, rowIn, with, put}
 use Rattle.host.proofs.Numbers.{StoredAt, stored, number-stored, length-numbers, numbers-at, numbers-beyond, numbers-set, under, over}
 
 -- a function is known by its values
@@ -41,7 +41,7 @@ few p = ⊎-elim (λ a. a) (λ b. absurd (none b)) (less-or-not (number p) (leng
     none : length shapes ≤ number p → ⊥
     none b = omega (arith, ap number (sym (List·getD-eq-default parts arrays b) ∙ listed p .stands))
 
--- a row is known by its parts, or by those of the sets, of the table, of the clock and of the queue
+-- a row is known by its parts, or by those of the sets, of the callers, of the table, of the clock and of the queue
 pub by-parts : (r s : Row) → map r parts ≡ map s parts → r ≡ s
 by-parts r s e = by-values (λ p. sym (found r p) ∙ ap₂ (λ (l : List (List ℕ)) (d : List ℕ). getD l (number p) d) e last ∙ found s p)
   where
@@ -50,6 +50,9 @@ by-parts r s e = by-values (λ p. sym (found r p) ∙ ap₂ (λ (l : List (List 
 
 abbrev pub setParts : Row → List (List ℕ)
 setParts r = map r ofSets
+
+abbrev pub callerParts : Row → List (List ℕ)
+callerParts r = map r ofCallers
 
 abbrev pub tableParts : Row → List (List ℕ)
 tableParts r = map r ofTable
@@ -60,8 +63,8 @@ clockParts r = map r ofClock
 abbrev pub queueParts : Row → List (List ℕ)
 queueParts r = map r ofQueue
 
-pub by-groups : (r s : Row) → setParts r ≡ setParts s → tableParts r ≡ tableParts s → clockParts r ≡ clockParts s → queueParts r ≡ queueParts s → r ≡ s
-by-groups r s a b c d = by-parts r s (both a (both b (both c d)))
+pub by-groups : (r s : Row) → setParts r ≡ setParts s → callerParts r ≡ callerParts s → tableParts r ≡ tableParts s → clockParts r ≡ clockParts s → queueParts r ≡ queueParts s → r ≡ s
+by-groups r s a b c d e = by-parts r s (both a (both b (both c (both d e))))
   where
     both : {w x y z : List (List ℕ)} → w ≡ x → y ≡ z → w ++ y ≡ x ++ z
     both p q = ap₂ (λ (l m : List (List ℕ)). l ++ m) p q

@@ -189,7 +189,7 @@ module _ (q : List Sleeper) (f : Queued q) (i : ℕ) (h : i < length q) where
 
   pub taken : (r : Row) → emptied (withQueue r q) ≡ withQueue r (without q i)
   taken r =
-      by-groups _ _ refl refl refl
+      by-groups _ _ refl refl refl refl
       (queue-parts
       (ap (λ (n : ℕ). n ∷ []) (omega (arith, length-without q i h)))
       (order-without q i h (f .few))
@@ -221,7 +221,7 @@ module _ (q : List Sleeper) (f : Queued q) (s : Sleeper) (a : Awake (s .process)
 
   pub joined : (r : Row) → joinedBy (withQueue r q) ≡ withQueue r (q ++ s ∷ [])
   joined r =
-      by-groups _ _ refl refl refl
+      by-groups _ _ refl refl refl refl
       (queue-parts
       (ap (λ (n : ℕ). n ∷ []) (sym (length-append q (s ∷ []))))
       (order-joined q s l)

@@ -9,7 +9,7 @@ use lib.Seq.{ext-getD}
 use Rattle.model.specs.declared.Set.{Set}
 use Rattle.model.specs.Limits.{slots}
 use Rattle.model.specs.State.{noSet}
-use Rattle.host.specs.Parts.{generations, counts, readers, alterers, Row}
+use Rattle.host.specs.Parts.{generations, counts, owners, owningGroups, modes, Row}
 use Rattle.host.specs.Holding.{setAt, setsFrom, setsIn}
 
 pub length-sets-in : (n : ℕ) (r : Row) (slot : ℕ) → length (setsFrom r slot n) ≡ n
@@ -32,17 +32,19 @@ pub record Sets (r : Row) (l : List Set) : Type 0 where
   pub size : length l ≡ slots
   pub generation : r generations ≡ map (λ (s : Set). s .generation) l
   pub count : r counts ≡ map (λ (s : Set). s .count) l
-  pub read : r readers ≡ map (λ (s : Set). s .read) l
-  pub alter : r alterers ≡ map (λ (s : Set). s .alter) l
+  pub owner : r owners ≡ map (λ (s : Set). s .owner) l
+  pub group : r owningGroups ≡ map (λ (s : Set). s .group) l
+  pub mode : r modes ≡ map (λ (s : Set). s .mode) l
 
 module _ {r : Row} {l : List Set} (k : Sets r l) where
   pub set-of : (slot : ℕ) → setAt r slot ≡ getD l slot noSet
   set-of slot =
       let a = List·getD-map (λ (s : Set). s .generation) l slot noSet in
       let b = List·getD-map (λ (s : Set). s .count) l slot noSet in
-      let c = List·getD-map (λ (s : Set). s .read) l slot noSet in
-      let d = List·getD-map (λ (s : Set). s .alter) l slot noSet in
-      rw (k .generation, k .count, k .read, k .alter, a, b, c, d)
+      let c = List·getD-map (λ (s : Set). s .owner) l slot noSet in
+      let d = List·getD-map (λ (s : Set). s .group) l slot noSet in
+      let e = List·getD-map (λ (s : Set). s .mode) l slot noSet in
+      rw (k .generation, k .count, k .owner, k .group, k .mode, a, b, c, d, e)
 
   pub sets-back : setsIn r ≡ l
   sets-back =

@@ -7,11 +7,12 @@ use lib.Dec.{eqb}
 use lib.ListN.{length, getD, take, drop, replicate}
 use lib.IntN.{ℤ}
 use Rattle.model.specs.declared.Set.{Set}
+use Rattle.model.specs.declared.Caller.{Caller}
 use Rattle.model.specs.Limits.{slots, processes, arrayBytes}
-use Rattle.model.specs.State.{Table, Sleeper, State}
+use Rattle.model.specs.State.{Table, Sleeper, Callers, State}
 use Rattle.model.specs.Marks.{named}
 use Rattle.model.specs.Runs.{Reached}
-use Rattle.host.specs.Parts.{Part, generations, counts, readers, alterers, values, lasts, clock, asleep, order, sleepsAt, sizes, names, starts, waits, arrays, Row, rowIn, with, put}
+use Rattle.host.specs.Parts.{Part, generations, counts, owners, owningGroups, modes, users, groups, values, lasts, clock, asleep, order, sleepsAt, sizes, names, starts, waits, arrays, Row, rowIn, with, put}
 use Rattle.host.specs.Waits.{waitNumber, waitOf}
 
 -- ---- from a state to a row
@@ -78,10 +79,14 @@ withQueue r q = with (with (with (withKept kept r q) asleep (length q ∷ [])) o
 abbrev pub withTime : Row → ℕ → Row
 withTime r time = with r clock (time ∷ [])
 
--- .. with other sets, and with other values and last processes
+-- .. with other sets, with other callers, and with other values and last processes
 abbrev pub withSets : Row → List Set → Row
 withSets r l =
-    with (with (with (with r generations (map (λ (s : Set). s .generation) l)) counts (map (λ (s : Set). s .count) l)) readers (map (λ (s : Set). s .read) l)) alterers (map (λ (s : Set). s .alter) l)
+    let counted = with (with r generations (map (λ (s : Set). s .generation) l)) counts (map (λ (s : Set). s .count) l) in
+    with (with (with counted owners (map (λ (s : Set). s .owner) l)) owningGroups (map (λ (s : Set). s .group) l)) modes (map (λ (s : Set). s .mode) l)
+
+abbrev pub withCallers : Row → Callers → Row
+withCallers r c = with (with r users (c .users)) groups (c .groups)
 
 abbrev pub withTable : Row → Table → Row
 withTable r t = with (with r values (t .values)) lasts (t .lasts)
@@ -94,9 +99,10 @@ pub record Host : Type 0 where
 -- how it holds a state
 abbrev pub hostOf : State → Host
 hostOf s =
-    record { row = withQueue (withTable (withTime (withSets (λ (p : Part). []) (s .sets)) (s .time)) (s .table)) (s .queue); adjustments = s .table .adjustments }
+    let owned = withCallers (withSets (λ (p : Part). []) (s .sets)) (s .callers) in
+    record { row = withQueue (withTable (withTime owned (s .time)) (s .table)) (s .queue); adjustments = s .table .adjustments }
 
--- a host with another table and queue: its sets and its time stay
+-- a host with another table and queue: its sets, its callers and its time stay
 abbrev pub hostWith : Host → Table → List Sleeper → Host
 hostWith x t q = record { row = withQueue (withTable (x .row) t) q; adjustments = t .adjustments }
 
@@ -105,11 +111,19 @@ hostWith x t q = record { row = withQueue (withTable (x .row) t) q; adjustments 
 -- the set in a slot
 abbrev pub setAt : Row → ℕ → Set
 setAt r slot =
-    record { generation = getD (r generations) slot 0; count = getD (r counts) slot 0; read = getD (r readers) slot 0; alter = getD (r alterers) slot 0 }
+    record {
+      generation = getD (r generations) slot 0;
+      count = getD (r counts) slot 0;
+      owner = getD (r owners) slot 0;
+      group = getD (r owningGroups) slot 0;
+      mode = getD (r modes) slot 0;
+    }
 
 -- .. replaced
 abbrev pub withSet : Row → ℕ → Set → Row
-withSet r slot s = put (put (put (put r generations slot (s .generation)) counts slot (s .count)) readers slot (s .read)) alterers slot (s .alter)
+withSet r slot s =
+    let counted = put (put r generations slot (s .generation)) counts slot (s .count) in
+    put (put (put counted owners slot (s .owner)) owningGroups slot (s .group)) modes slot (s .mode)
 
 unfoldable pub setsFrom : Row → ℕ → ℕ → List Set
 setsFrom r slot zero = []
@@ -122,6 +136,18 @@ setsIn r = setsFrom r 0 slots
 abbrev pub entry : ℕ → ℕ
 entry zero = 255
 entry (suc p) = p
+
+-- the user and the group of a process, both 0 of no process
+abbrev pub callerIn : Row → ℕ → Caller
+callerIn r p = record { user = getD (r users) (entry p) 0; group = getD (r groups) (entry p) 0 }
+
+-- .. replaced
+abbrev pub withCallerAt : Row → ℕ → Caller → Row
+withCallerAt r p c = put (put r users (entry p) (c .user)) groups (entry p) (c .group)
+
+-- those of all processes
+abbrev pub callersIn : Row → Callers
+callersIn r = record { users = r users; groups = r groups }
 
 -- what a process sleeps with, replaced but for the array: its call, and since when and how long it waits
 abbrev pub withCall : Row → ℕ → ℕ → ℕ → ℕ → Row
@@ -169,7 +195,8 @@ abbrev pub timeIn : Row → ℕ
 timeIn r = getD (r clock) 0 0
 
 abbrev pub stateIn : Host → State
-stateIn x = record { sets = setsIn (x .row); table = tableIn x; queue = queueIn (x .row); time = timeIn (x .row) }
+stateIn x =
+    record { sets = setsIn (x .row); callers = callersIn (x .row); table = tableIn x; queue = queueIn (x .row); time = timeIn (x .row) }
 
 -- the host that is lent: its bytes, and its adjustments
 abbrev pub hostIn : List ℕ → List ℤ → Host

@@ -8,11 +8,15 @@ use lib.ListN.{getD, set}
 use Rattle.model.specs.Limits.{slots, processes, arrayBytes, allSemaphores}
 
 pub data Part : Type 0 where
-  -- of each slot: its generation, its number of semaphores, and its two masks
+  -- of each slot: its generation, its number of semaphores, its owner, its owning group, and its mode
   generations : Part
   counts : Part
-  readers : Part
-  alterers : Part
+  owners : Part
+  owningGroups : Part
+  modes : Part
+  -- of each process: its user and its group
+  users : Part
+  groups : Part
   -- of each semaphore, by slot and number: its value and its last process
   values : Part
   lasts : Part
@@ -31,9 +35,12 @@ pub data Part : Type 0 where
   -- the bytes of the arrays
   arrays : Part
 
--- the parts in their order: those of the sets, of the table, of the clock, and of the queue
+-- the parts in their order: those of the sets, of the callers, of the table, of the clock, and of the queue
 abbrev pub ofSets : List Part
-ofSets = generations ∷ counts ∷ readers ∷ alterers ∷ []
+ofSets = generations ∷ counts ∷ owners ∷ owningGroups ∷ modes ∷ []
+
+abbrev pub ofCallers : List Part
+ofCallers = users ∷ groups ∷ []
 
 abbrev pub ofTable : List Part
 ofTable = values ∷ lasts ∷ []
@@ -45,7 +52,7 @@ abbrev pub ofQueue : List Part
 ofQueue = asleep ∷ order ∷ sleepsAt ∷ sizes ∷ names ∷ starts ∷ waits ∷ arrays ∷ []
 
 abbrev pub parts : List Part
-parts = ofSets ++ ofTable ++ ofClock ++ ofQueue
+parts = ofSets ++ ofCallers ++ ofTable ++ ofClock ++ ofQueue
 
 -- a part's number: where it stands in that list
 abbrev pub part : ℕ → Part
@@ -61,19 +68,22 @@ nth n = record { number = n; stands = refl }
 abbrev pub listed : (p : Part) → Listed p
 listed generations = nth 0
 listed counts = nth 1
-listed readers = nth 2
-listed alterers = nth 3
-listed values = nth 4
-listed lasts = nth 5
-listed clock = nth 6
-listed asleep = nth 7
-listed order = nth 8
-listed sleepsAt = nth 9
-listed sizes = nth 10
-listed names = nth 11
-listed starts = nth 12
-listed waits = nth 13
-listed arrays = nth 14
+listed owners = nth 2
+listed owningGroups = nth 3
+listed modes = nth 4
+listed users = nth 5
+listed groups = nth 6
+listed values = nth 7
+listed lasts = nth 8
+listed clock = nth 9
+listed asleep = nth 10
+listed order = nth 11
+listed sleepsAt = nth 12
+listed sizes = nth 13
+listed names = nth 14
+listed starts = nth 15
+listed waits = nth 16
+listed arrays = nth 17
 
 abbrev pub number : Part → ℕ
 number p = listed p .number
@@ -91,8 +101,11 @@ abbrev pub shapes : List Shape
 shapes =
     shape 2 slots
     ∷ shape 1 slots
-    ∷ shape 1 slots
-    ∷ shape 1 slots
+    ∷ shape 4 slots
+    ∷ shape 4 slots
+    ∷ shape 2 slots
+    ∷ shape 4 processes
+    ∷ shape 4 processes
     ∷ shape 2 allSemaphores
     ∷ shape 1 allSemaphores
     ∷ shape 8 1

@@ -28,7 +28,7 @@ pub fn put_half(all: &mut [u8], at: usize, x: u16)
     all[at + 1] = (x / 256) as u8;
 }
 
-fn word_at(host: &[u8; HOST_BYTES], at: usize) -> u32
+pub fn word_at(host: &[u8; HOST_BYTES], at: usize) -> u32
     requires { ⌜ at + 3 < hostBytes ⌝ }
     ensures { λ r. ⌜ r ≡ numberAt 4 (now (host .entry)) at ⌝ }
 {
@@ -37,7 +37,7 @@ fn word_at(host: &[u8; HOST_BYTES], at: usize) -> u32
     (low as u32) + 65536 * (high as u32)
 }
 
-fn put_word(all: &mut [u8], at: usize, x: u32)
+pub fn put_word(all: &mut [u8], at: usize, x: u32)
     requires { ⌜ at + 3 < length (now all) ⌝ }
     ensures { λ _. ⌜ now (all .exit) ≡ sets (now (all .entry)) at (bytesOf 4 x) ⌝ }
 {

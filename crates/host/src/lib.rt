@@ -5,6 +5,7 @@
 // it, `rowIn`, by an equation; proofs/Whole.antt has that two rows which say the same are the same bytes.
 mod adjustments;
 mod bytes;
+mod callers;
 mod clock;
 mod parts;
 mod semaphores;
@@ -16,6 +17,8 @@ mod waits;
 pub use adjustments::adjustments_of;
 pub use adjustments::put_adjustment;
 pub use adjustments::put_adjustments;
+pub use callers::caller_of;
+pub use callers::put_caller;
 pub use clock::put_time;
 pub use clock::time_of;
 pub use parts::HOST_BYTES;

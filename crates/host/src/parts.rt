@@ -5,17 +5,25 @@ use model::ALL_SEMAPHORES;
 use model::PROCESSES;
 use model::SETS;
 
-// Of each slot: its generation (2 bytes), its number of semaphores, and its two masks.
+// Of each slot: its generation (2 bytes), its number of semaphores, its owner and owning group (4 bytes each), and its mode
+// (2 bytes).
 pub const GENERATIONS_AT: usize = 0;
 
 pub const COUNTS_AT: usize = GENERATIONS_AT + 2 * SETS;
 
-pub const READERS_AT: usize = COUNTS_AT + SETS;
+pub const OWNERS_AT: usize = COUNTS_AT + SETS;
 
-pub const ALTERERS_AT: usize = READERS_AT + SETS;
+pub const OWNING_GROUPS_AT: usize = OWNERS_AT + 4 * SETS;
+
+pub const MODES_AT: usize = OWNING_GROUPS_AT + 4 * SETS;
+
+// Of each process: its user and its group (4 bytes each).
+pub const USERS_AT: usize = MODES_AT + 2 * SETS;
+
+pub const GROUPS_AT: usize = USERS_AT + 4 * PROCESSES;
 
 // Of each semaphore, by slot and number: its value (2 bytes) and its last process.
-pub const VALUES_AT: usize = ALTERERS_AT + SETS;
+pub const VALUES_AT: usize = GROUPS_AT + 4 * PROCESSES;
 
 pub const LASTS_AT: usize = VALUES_AT + 2 * ALL_SEMAPHORES;
 

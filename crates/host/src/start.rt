@@ -9,7 +9,7 @@ ghost use Rattle.host.specs.Holding.{hostOf};
 use crate::parts::HOST_BYTES;
 use model::ALL_ADJUSTMENTS;
 
-// Four free slots with every number 0, and nobody asleep.
+// Four free slots with every number 0, every user and group 0, and nobody asleep.
 pub fn fresh() -> [u8; HOST_BYTES]
     ensures { λ r. ⌜ rowIn r ≡ hostOf freshState .row ⌝ }
 {

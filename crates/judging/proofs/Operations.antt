@@ -1,17 +1,12 @@
 -- The operations of an array, one at a time, as a loop over its bytes reads them.
 use mathlib.Core.Path.{_≡_}
-use mathlib.Core.Bool.{Bool, cond, _||_, _&&_}
 use mathlib.Core.List.{List, [], _∷_}
 use Prim.Native.Nat.{ℕ, suc, _+_, _*_, _-_, _/_, _<_}
 use native.Mathlib.Omega.{arith}
-use lib.Dec.{leb}
 use lib.ListN.{length, getD}
 use lib.IntN.{ℤ}
-use Rattle.model.specs.declared.Set.{Set}
 use Rattle.model.specs.declared.Operation.{Operation}
-use Rattle.model.specs.Operation.{two, signed16, operationAt, operationsFrom, operationsOf, hasBit, isZero}
-use Rattle.model.specs.Marks.{bitOf}
-use Rattle.model.specs.Checks.{numberTooHigh, permitted}
+use Rattle.model.specs.Operation.{two, signed16, operationAt, operationsFrom, operationsOf}
 
 -- an operation, from what its six bytes are read as
 pub read-as : (bytes : List ℕ) (at : ℕ) (number raw flags : ℕ) (amount : ℤ)
@@ -40,14 +35,3 @@ module _ (bytes : List ℕ) where
   pub none : (i : ℕ) → i ≡ length bytes / 6 → rest bytes i ≡ []
   unfolding operationsFrom
   none i h = let e : length bytes / 6 - i ≡ 0 = omega arith in rw e
-
--- ---- the tests on an array, one operation at a time: o is the i-th, and t what the test says of it
-
-module _ (bytes : List ℕ) (i : ℕ) (o : Operation) (h : i < length bytes / 6) (eo : o ≡ operationAt bytes (i * 6)) (t : Bool) where
-  pub high : (count : ℕ) → leb count (o .number) ≡ t → t || numberTooHigh count (rest bytes (i + 1)) ≡ numberTooHigh count (rest bytes i)
-  unfolding numberTooHigh
-  high count e = rw (first bytes i h, rw eo at e)
-
-  pub allowed : (process : ℕ) (set : Set) → hasBit (cond (isZero (o .amount)) (set .read) (set .alter)) (bitOf process) ≡ t → t && permitted process set (rest bytes (i + 1)) ≡ permitted process set (rest bytes i)
-  unfolding permitted
-  allowed process set e = rw (first bytes i h, rw eo at e)

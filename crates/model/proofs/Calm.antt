@@ -24,7 +24,7 @@ use Rattle.model.proofs.JudgeLaws.{either}
 use Rattle.model.proofs.LookLaws.{look-fine, after-good}
 use Rattle.model.proofs.QueueLaws.{distinct-without}
 use Rattle.model.proofs.WakingLaws.{finish-length, finish-wakings}
-use Rattle.model.proofs.Rules.{sumTo, Looked, plain-looked, quick-looked, sumTo-mono, sumTo-add, sumTo-8, count-fewer, count-length, KeptByFinish, Tame, tame}
+use Rattle.model.proofs.Rules.{sumTo, Looked, plain-looked, quick-looked, sumTo-mono, sumTo-add, sumTo-7, sumTo-8, count-fewer, count-length, KeptByFinish, Tame, tame}
 
 module _ {sets : List Set} where
   pub finish-calm : (w : World) (i : ℕ) → Calm sets w → i < length (w .queue) → Calm sets (finish w i)
@@ -117,9 +117,15 @@ module _ (wake : Waker) (t : Tame wake) (sets : List Set) where
       rw (shares slot q) at (sumTo-add (countOf (mine slot) q) (countOf (fromSlot (slot + 1)) q)) in
       record { more = omega arith; most = omega arith }
 
--- eight sleepers are looked at 36 times at most
-pub looks-36 : (test : Sleeper → Bool) (q : List Sleeper) → length q ≤ processes → sumTo (countOf test q) ≤ 36
-looks-36 test q h = rw sumTo-8 at (sumTo-mono (countOf test q) 8 (omega (arith, count-length test q)))
+-- n sleepers are looked at 1 + 2 + .. + n times at most: seven 28 times, eight 36 times
+looks-most : (test : Sleeper → Bool) (q : List Sleeper) (n : ℕ) → length q ≤ n → sumTo (countOf test q) ≤ sumTo n
+looks-most test q n h = sumTo-mono (countOf test q) n (omega (arith, count-length test q))
+
+pub looks-28 : (test : Sleeper → Bool) (q : List Sleeper) → length q < processes → sumTo (countOf test q) ≤ 28
+looks-28 test q h = rw sumTo-7 at (looks-most test q 7 (omega arith))
+
+looks-36 : (test : Sleeper → Bool) (q : List Sleeper) → length q ≤ processes → sumTo (countOf test q) ≤ 36
+looks-36 test q h = rw sumTo-8 at (looks-most test q 8 h)
 
 pub plain-looks : {sets : List Set} (slot n : ℕ) (w : World) (l : ℕ) → Calm sets w → plain n slot w l .looks ≤ l + 36
 plain-looks slot n w l c = omega (arith, plain-looked slot n 0 w l .most, looks-36 (mine slot) (w .queue) (omega (arith, c .room)))

@@ -36,12 +36,12 @@ checked-agrees zero s x y i f = f refl
 checked-agrees (suc code) s x y i f = quiet (refused s (suc code)) refl i
 
 -- an event that ends in a waking
-pub woken-agrees : (s : State) (a b : Ended) → Invariant s → a .world ≡ b .world → a .looks ≤ b .looks → b .looks ≤ 36 → Calm (s .sets) (a .world) → Clean (s .sets) (a .world .table)
+pub woken-agrees : (s : State) (a b : Ended) → Invariant s → a .world ≡ b .world → a .looks ≤ b .looks → b .looks ≤ 28 → Calm (s .sets) (a .world) → Clean (s .sets) (a .world .table)
     → All (λ (q : Sleeper). couldFinish (a .world .table) q ≡ false) (a .world .queue) → All (InTime s) (a .world .queue) → Agrees (wokenAs s a) (wokenAs s b)
 woken-agrees s a b i e le most c clean stuck inTime =
     record {
       alike = record { answer = refl; wakings = ap (λ (w : World). w .wakings) e; fewer = le; bounded = most };
-      state = ap (λ (w : World). record { sets = s .sets; table = w .table; queue = w .queue; time = s .time }) e;
+      state = ap (λ (w : World). record { sets = s .sets; callers = s .callers; table = w .table; queue = w .queue; time = s .time }) e;
       kept = record { sets = i .sets; counts = i .counts; vacant = i .vacant; good = c .good; clean = clean; fits = c .fits; distinct = c .distinct; stuck = stuck; time = i .time; inTime = inTime };
     }
 
@@ -55,7 +55,7 @@ fits-set sets slot k q ne f =
 
 -- a slot at which nobody sleeps is cleared and given a set
 pub cleared-kept : (s : State) (slot : ℕ) (k : Set) → Invariant s → slot < slots → k .count ≤ semaphores → Vacant k → All (λ (q : Sleeper). q .slot ≢ slot) (s .queue)
-    → Invariant (record { sets = set (s .sets) slot k; table = cleared (s .table) slot; queue = s .queue; time = s .time })
+    → Invariant (record { sets = set (s .sets) slot k; callers = s .callers; table = cleared (s .table) slot; queue = s .queue; time = s .time })
 cleared-kept s slot k i hs hk hv ne =
     record {
       sets = length-set (s .sets) slot k ∙ i .sets;
@@ -71,7 +71,7 @@ cleared-kept s slot k i hs hk hv ne =
     }
 
 -- taking sleepers out of the queue keeps the invariant
-pub keep-kept : (s : State) (test : Sleeper → Bool) → Invariant s → Invariant (record { sets = s .sets; table = s .table; queue = keep test (s .queue); time = s .time })
+pub keep-kept : (s : State) (test : Sleeper → Bool) → Invariant s → Invariant (record { sets = s .sets; callers = s .callers; table = s .table; queue = keep test (s .queue); time = s .time })
 keep-kept s test i =
     record {
       sets = i .sets;

@@ -29,8 +29,8 @@ use Rattle.model.specs.Judge.{judged, step, goOn, judgeFrom, judge, code
 use Rattle.model.specs.Look.{copiesOf, look}
 use Rattle.model.specs.Waking.{World, Waker, waker, waking, finish}
 use Rattle.model.specs.Clock.{atOnce}
-use Rattle.model.specs.Checks.{slotOf, checkCreate, checkOperate, checkNumber, checkSetValue, checkSetAll, checkSet, checkProcess, checkClock}
-use Rattle.model.specs.Events.{Event, create, operate, setValue, remove, signal, exit, query, setAll, readAll, clock, Result, checked, endedWith, wouldSleep, operated, call, event, doCreate, doOperate, doSetValue, doRemove, doSignal, doExit, doQuery, doSetAll, doReadAll, doClock}
+use Rattle.model.specs.Checks.{slotOf, checkCaller, checkCreate, checkOperate, checkQuery, checkSetValue, checkSetAll, checkReadAll, checkRemove, checkProcess, checkClock}
+use Rattle.model.specs.Events.{Event, create, operate, setValue, remove, signal, exit, query, setAll, readAll, clock, actAs, Result, checked, endedWith, wouldSleep, operated, call, event, doCreate, doOperate, doSetValue, doRemove, doSignal, doExit, doQuery, doSetAll, doReadAll, doClock, doActAs}
 use Rattle.model.specs.Runs.{All, none, also}
 use Rattle.model.specs.Invariant.{Fits}
 use Rattle.model.specs.Positions.{Decides, WakingNamed, done, again, range, removed, signalled, expired, CallNamed, Named, WakingOf, Names}
@@ -232,17 +232,18 @@ module _ (wake : Waker) (s : State) (p : ℕ) (i : ℤ) (wait : Wait) (bytes : L
       }
 
 answer-named : (engine : Engine) (s : State) (e : Event) → Named s e (event (waker engine) s e .answer)
-unfolding event doCreate doOperate doSetValue doRemove doSignal doExit doQuery doSetAll doReadAll doClock
-answer-named engine s (create count read alter) = checked-named (checkCreate s count) s _ (λ at. at ≡ Nowhere) refl refl
+unfolding event doCreate doOperate doSetValue doRemove doSignal doExit doQuery doSetAll doReadAll doClock doActAs
+answer-named engine s (create p count mode) = checked-named (checkCreate s p count mode) s _ (λ at. at ≡ Nowhere) refl refl
 answer-named engine s (operate p i wait bytes) = call-named (waker engine) s p i wait bytes
-answer-named engine s (setValue i n v) = checked-named (checkSetValue s i n v) s _ (λ at. at ≡ Nowhere) refl refl
-answer-named engine s (remove i) = checked-named (checkSet s i) s _ (λ at. at ≡ Nowhere) refl refl
+answer-named engine s (setValue p i n v) = checked-named (checkSetValue s p i n v) s _ (λ at. at ≡ Nowhere) refl refl
+answer-named engine s (remove p i) = checked-named (checkRemove s p i) s _ (λ at. at ≡ Nowhere) refl refl
 answer-named engine s (signal p) = checked-named (checkProcess p) s _ (λ at. at ≡ Nowhere) refl refl
 answer-named engine s (exit p) = checked-named (checkProcess p) s _ (λ at. at ≡ Nowhere) refl refl
-answer-named engine s (query i n) = checked-named (checkNumber s i n) s _ (λ at. at ≡ Nowhere) refl refl
-answer-named engine s (setAll i bytes) = checked-named (checkSetAll s i bytes) s _ (λ at. at ≡ Nowhere) refl refl
-answer-named engine s (readAll i) = checked-named (checkSet s i) s _ (λ at. at ≡ Nowhere) refl refl
+answer-named engine s (query p i n) = checked-named (checkQuery s p i n) s _ (λ at. at ≡ Nowhere) refl refl
+answer-named engine s (setAll p i bytes) = checked-named (checkSetAll s p i bytes) s _ (λ at. at ≡ Nowhere) refl refl
+answer-named engine s (readAll p i) = checked-named (checkReadAll s p i) s _ (λ at. at ≡ Nowhere) refl refl
 answer-named engine s (clock now) = checked-named (checkClock s now) s _ (λ at. at ≡ Nowhere) refl refl
+answer-named engine s (actAs p user group) = checked-named (checkCaller s p) s _ (λ at. at ≡ Nowhere) refl refl
 
 -- ---- wakings
 
@@ -282,17 +283,18 @@ operated-wakings engine s c Again at copies = none
 operated-wakings engine s c Range at copies = none
 
 wakings-named : (engine : Engine) (s : State) (e : Event) → All (WakingOf e) (event (waker engine) s e .wakings)
-unfolding event doCreate doOperate doSetValue doRemove doSignal doExit doQuery doSetAll doReadAll doClock
-wakings-named engine s (create count read alter) = checked-wakings (checkCreate s count) s _ none
+unfolding event doCreate doOperate doSetValue doRemove doSignal doExit doQuery doSetAll doReadAll doClock doActAs
+wakings-named engine s (create p count mode) = checked-wakings (checkCreate s p count mode) s _ none
 wakings-named engine s (operate p i wait bytes) = checked-wakings (checkOperate s p i bytes) s _ (operated-wakings engine s (call (s .time) p i wait bytes) _ _ _)
-wakings-named engine s (setValue i n v) = checked-wakings (checkSetValue s i n v) s _ (wake-named engine (slotOf i) _ _ 0 none)
-wakings-named engine s (remove i) = checked-wakings (checkSet s i) s _ (ended-named (pos 43) _ (s .queue) removed)
+wakings-named engine s (setValue p i n v) = checked-wakings (checkSetValue s p i n v) s _ (wake-named engine (slotOf i) _ _ 0 none)
+wakings-named engine s (remove p i) = checked-wakings (checkRemove s p i) s _ (ended-named (pos 43) _ (s .queue) removed)
 wakings-named engine s (signal p) = checked-wakings (checkProcess p) s _ (ended-named (pos 4) _ (s .queue) signalled)
 wakings-named engine s (exit p) = checked-wakings (checkProcess p) s _ (treatFrom-keeps engine (s .sets) AllNamed named-kept 0 _ _ none)
-wakings-named engine s (query i n) = checked-wakings (checkNumber s i n) s _ none
-wakings-named engine s (setAll i bytes) = checked-wakings (checkSetAll s i bytes) s _ (wake-named engine (slotOf i) _ _ 0 none)
-wakings-named engine s (readAll i) = checked-wakings (checkSet s i) s _ none
+wakings-named engine s (query p i n) = checked-wakings (checkQuery s p i n) s _ none
+wakings-named engine s (setAll p i bytes) = checked-wakings (checkSetAll s p i bytes) s _ (wake-named engine (slotOf i) _ _ 0 none)
+wakings-named engine s (readAll p i) = checked-wakings (checkReadAll s p i) s _ none
 wakings-named engine s (clock now) = checked-wakings (checkClock s now) s _ (ended-named (pos 11) _ _ expired)
+wakings-named engine s (actAs p user group) = checked-wakings (checkCaller s p) s _ none
 
 -- in any state, in either engine
 pub event-names : (engine : Engine) (s : State) (e : Event) → Names s e (event (waker engine) s e)

@@ -7,11 +7,12 @@ use mathlib.Core.Logic.{_≢_}
 use mathlib.Core.Bool.{Bool, true, false, cond, not, _||_}
 use mathlib.Core.List.{List, [], _∷_, _++_}
 use lib.Dec.{eqb}
-use lib.ListN.{length, getD}
+use lib.ListN.{length, getD, length-append}
 use lib.IntN.{ℤ}
 use borrow.Author.Tests.{eqb-true, eqb-false, not-true}
 use Rattle.model.specs.declared.Position.the-variants.{Nowhere}
 use Rattle.model.specs.declared.Set.{Set}
+use Rattle.model.specs.declared.Wait.the-variants.{Endless}
 use Rattle.model.specs.Limits.{processes}
 use Rattle.model.specs.State.{Sleeper, State, noSleeper}
 use Rattle.model.specs.Waking.{without, waking}
@@ -153,3 +154,15 @@ fits-few q f d = pigeons processes q d (all-map (λ s k. (k .process, k .last)) 
 
 pub few : (s : State) → Invariant s → length (s .queue) ≤ processes
 few s i = fits-few (s .queue) (i .fits) (i .distinct)
+
+-- fewer, while one of the processes is awake
+pub fewer-awake : {sets : List Set} (p : ℕ) (q : List Sleeper) → 1 ≤ p → p ≤ processes → All (λ (s : Sleeper). s .process ≢ p) q → All (Fits sets) q → Distinct q → length q < processes
+fewer-awake p q some last o f d =
+    omega (
+      arith,
+      length-append q (caller ∷ []),
+      pigeons processes (q ++ caller ∷ []) (distinct-snoc q caller d o) (all-append q (caller ∷ []) (all-map (λ s k. (k .process, k .last)) f) (also (some, last) none)),
+    )
+  where
+    caller : Sleeper
+    caller = record { process = p; slot = 0; array = []; start = 0; wait = Endless }

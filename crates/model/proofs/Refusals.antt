@@ -13,8 +13,8 @@ use Rattle.model.specs.State.{State, Sleeper}
 use Rattle.model.specs.Judge.{codeOf}
 use Rattle.model.specs.Waking.{Waker, waker}
 use Rattle.model.specs.Clock.{atOnce}
-use Rattle.model.specs.Checks.{checkCreate, checkOperate, checkNumber, checkSetValue, checkSetAll, checkSet, checkProcess, checkClock}
-use Rattle.model.specs.Events.{Event, create, operate, setValue, remove, signal, exit, query, setAll, readAll, clock, Result, refusedAt, checked, wouldSleep, operated, event, doCreate, doOperate, doSetValue, doRemove, doSignal, doExit, doQuery, doSetAll, doReadAll, doClock}
+use Rattle.model.specs.Checks.{checkCaller, checkCreate, checkOperate, checkQuery, checkSetValue, checkSetAll, checkReadAll, checkRemove, checkProcess, checkClock}
+use Rattle.model.specs.Events.{Event, create, operate, setValue, remove, signal, exit, query, setAll, readAll, clock, actAs, Result, refusedAt, checked, wouldSleep, operated, event, doCreate, doOperate, doSetValue, doRemove, doSignal, doExit, doQuery, doSetAll, doReadAll, doClock, doActAs}
 use Rattle.model.specs.Runs.{RefusedWhole, Refuses}
 use Rattle.model.proofs.JudgeLaws.{either}
 
@@ -46,14 +46,15 @@ operated-refuses wake s c Range at copies = λ code e. same-code s 34 (suc code)
 
 -- Demand 1.
 pub refused-whole : (engine : Engine) (s : State) (e : Event) → RefusedWhole engine s e
-unfolding event doCreate doOperate doSetValue doRemove doSignal doExit doQuery doSetAll doReadAll doClock
-refused-whole engine s (create count read alter) = by-check (checkCreate s count) s _ (done _ refl)
+unfolding event doCreate doOperate doSetValue doRemove doSignal doExit doQuery doSetAll doReadAll doClock doActAs
+refused-whole engine s (create p count mode) = by-check (checkCreate s p count mode) s _ (done _ refl)
 refused-whole engine s (operate p i wait bytes) = by-check (checkOperate s p i bytes) s _ (operated-refuses (waker engine) s _ _ _ _)
-refused-whole engine s (setValue i n v) = by-check (checkSetValue s i n v) s _ (done _ refl)
-refused-whole engine s (remove i) = by-check (checkSet s i) s _ (done _ refl)
+refused-whole engine s (setValue p i n v) = by-check (checkSetValue s p i n v) s _ (done _ refl)
+refused-whole engine s (remove p i) = by-check (checkRemove s p i) s _ (done _ refl)
 refused-whole engine s (signal p) = by-check (checkProcess p) s _ (done _ refl)
 refused-whole engine s (exit p) = by-check (checkProcess p) s _ (done _ refl)
-refused-whole engine s (query i n) = by-check (checkNumber s i n) s _ (done _ refl)
-refused-whole engine s (setAll i bytes) = by-check (checkSetAll s i bytes) s _ (done _ refl)
-refused-whole engine s (readAll i) = by-check (checkSet s i) s _ (done _ refl)
+refused-whole engine s (query p i n) = by-check (checkQuery s p i n) s _ (done _ refl)
+refused-whole engine s (setAll p i bytes) = by-check (checkSetAll s p i bytes) s _ (done _ refl)
+refused-whole engine s (readAll p i) = by-check (checkReadAll s p i) s _ (done _ refl)
 refused-whole engine s (clock now) = by-check (checkClock s now) s _ (done _ refl)
+refused-whole engine s (actAs p user group) = by-check (checkCaller s p) s _ (done _ refl)

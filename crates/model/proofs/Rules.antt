@@ -38,6 +38,10 @@ unfolding sumTo
 sumTo-add zero m = let e : 0 + m ≡ m = omega arith in rw e (omega arith)
 sumTo-add (suc n) m = let e : suc n + m ≡ suc (n + m) = omega arith in rw e (omega (arith, sumTo-add n m))
 
+pub sumTo-7 : sumTo 7 ≡ 28
+unfolding sumTo
+sumTo-7 = refl
+
 pub sumTo-8 : sumTo 8 ≡ 36
 unfolding sumTo
 sumTo-8 = refl

@@ -35,14 +35,14 @@ use Rattle.model.specs.Invariant.{Good, Clean, Fits, Other, Invariant, c
 use Rattle.model.proofs.MarkLaws.{untouched, every-bit}
 use Rattle.model.proofs.JudgeLaws.{Fine}
 use Rattle.model.proofs.LookLaws.{count-fits, numbers-fit, look-fine, applied-good, applied-undo, applied-value, still-stuck, unconcerned-stuck}
-use Rattle.model.proofs.QueueLaws.{few, distinct-snoc, keep-test}
+use Rattle.model.proofs.QueueLaws.{few, fewer-awake, distinct-snoc, keep-test}
 use Rattle.model.proofs.TableLaws.{assigned-good, assigned-stuck, unnamed-other, assignedAll-good, assignedAll-stuck, exited-good, exited-stuck}
 use Rattle.model.proofs.CleanLaws.{looked-clean, assigned-clean, assignedAll-clean, exited-clean, wake-clean}
-use Rattle.model.proofs.CheckLaws.{alive, at-first, Operable, operate-passes, Assignable, setValue-passes, AllAssignable, setAll-passes, process-passes}
+use Rattle.model.proofs.CheckLaws.{Awake, awake-few, alive, at-first, Operable, operate-passes, Assignable, setValue-passes, AllAssignable, setAll-passes, process-passes}
 use Rattle.model.proofs.ClockLaws.{begun-now}
 use Rattle.model.proofs.Rules.{tame}
 use Rattle.model.specs.Invariant.{Calm}
-use Rattle.model.proofs.Calm.{wake-calm, treatFrom-keeps, Asleep, asleep-kept, treatFrom-looked, looks-36, fromSlot}
+use Rattle.model.proofs.Calm.{wake-calm, treatFrom-keeps, Asleep, asleep-kept, treatFrom-looked, looks-28, fromSlot}
 use Rattle.model.proofs.Agree.{slot-mine, slot-other, Rests, Aside, WakersAgree, OthersStuck, wake-aside, wakers-agree}
 use Rattle.model.proofs.EventLaws.{Agrees, quiet, checked-agrees, woken-agrees, keep-kept}
 
@@ -59,12 +59,12 @@ together slot Meant t q r a m = go (mine slot q) refl
     go true e = r e
     go false e = a e (m (slot-other slot q e))
 
--- the table has become t: the sleepers of other sets are still stuck, and so are those of the set who name no touched semaphore
-treated : (s : State) (slot touched : ℕ) (t : Table) (i : Invariant s) → Good t → Clean (s .sets) t → All (Aside slot Anyone t) (s .queue) → OthersStuck (i .counts) slot touched (world t (s .queue))
+-- the table has become t, by a caller's event: the sleepers of other sets are still stuck, and so are those of the set who name no touched semaphore
+treated : (s : State) (p slot touched : ℕ) (t : Table) (i : Invariant s) → Awake s p → Good t → Clean (s .sets) t → All (Aside slot Anyone t) (s .queue) → OthersStuck (i .counts) slot touched (world t (s .queue))
     → Agrees (wokenAs s (waker Quick slot touched (world t (s .queue)) 0)) (wokenAs s (waker Plain slot touched (world t (s .queue)) 0))
-treated s slot touched t i g clean aside ready =
+treated s p slot touched t i a g clean aside ready =
     woken-agrees s (waker Quick slot touched w 0) (waker Plain slot touched w 0) i (ag .world) (ag .looks)
-    (omega (arith, tame Plain .looked slot touched w 0 .most, looks-36 (mine slot) (s .queue) (few s i)))
+    (omega (arith, tame Plain .looked slot touched w 0 .most, looks-28 (mine slot) (s .queue) (awake-few a i)))
     (wake-calm Quick slot touched w 0 calm) (wake-clean (i .counts) Quick slot touched w 0 calm clean)
     (all-zip (λ q r a. together slot Anyone _ q r a (λ e. tt)) (ag .rests) (wake-aside (i .counts) slot Quick Anyone touched w 0 calm aside))
     (tame Quick .keeps slot touched w 0 (Asleep (InTime s)) (asleep-kept (InTime s) slot) (i .inTime))
@@ -87,7 +87,7 @@ unfolding wouldSleep
 would-sleep-agrees s c at i f others stuck begun = go (atOnce (c .wait)) refl
   where
     asleep : Result
-    asleep = record { answer = answerAt (codeOf Sleep) at; state = record { sets = s .sets; table = s .table; queue = s .queue ++ c ∷ []; time = s .time }; looks = 0; wakings = [] }
+    asleep = record { answer = answerAt (codeOf Sleep) at; state = record { sets = s .sets; callers = s .callers; table = s .table; queue = s .queue ++ c ∷ []; time = s .time }; looks = 0; wakings = [] }
 
     go : (b : Bool) → atOnce (c .wait) ≡ b → Agrees (cond b (refusedAt s 11 at) asleep) (cond b (refusedAt s 11 at) asleep)
     go true e = quiet (refusedAt s 11 at) refl i
@@ -106,11 +106,11 @@ would-sleep-agrees s c at i f others stuck begun = go (atOnce (c .wait)) refl
           inTime = all-append (s .queue) (c ∷ []) (i .inTime) (also (rw begun (begun-now (s .time) (c .wait) e)) none);
         })
 
-operated-agrees : (s : State) (c : Sleeper) (x : Outcome) (at : Position) (copies : Copies) → Invariant s → Fits (s .sets) c → All (Other c) (s .queue) → Fine copies
+operated-agrees : (s : State) (c : Sleeper) (x : Outcome) (at : Position) (copies : Copies) → Invariant s → Awake s (c .process) → Fits (s .sets) c → All (Other c) (s .queue) → Fine copies
     → Clean (s .sets) (applied (s .table) c copies) → look (s .table) c .outcome ≡ x → c .start ≡ s .time → Agrees (operated (waker Quick) s c x at copies) (operated (waker Plain) s c x at copies)
 unfolding operated finishes
-operated-agrees s c Done at copies i f others k clean e begun =
-    treated s (c .slot) (differing 0 0 (valuesOf (s .table) (c .slot)) (valuesOf (applied (s .table) c copies) (c .slot))) t i g clean
+operated-agrees s c Done at copies i a f others k clean e begun =
+    treated s (c .process) (c .slot) (differing 0 0 (valuesOf (s .table) (c .slot)) (valuesOf (applied (s .table) c copies) (c .slot))) t i a g clean
     (all-zip3 aside (i .fits) others (i .stuck)) (all-zip3 ready (i .fits) others (i .stuck))
   where
     t : Table
@@ -129,9 +129,9 @@ operated-agrees s c Done at copies i f others k clean e begun =
         → hasBit (named q) (differing 0 0 (valuesOf (s .table) (c .slot)) (valuesOf t (c .slot))) ≡ false → couldFinish t q ≡ false
     ready q fq o st e un =
         unconcerned-stuck (i .counts) (s .table) t q (i .good) g fq (rw (slot-mine (c .slot) q e) un) (applied-undo (s .table) c q (i .good) f fq copies k o) st
-operated-agrees s c Sleep at copies i f others k clean e begun = would-sleep-agrees s c at i f others (ap finishes e) begun
-operated-agrees s c Again at copies i f others k clean e begun = quiet _ refl i
-operated-agrees s c Range at copies i f others k clean e begun = quiet _ refl i
+operated-agrees s c Sleep at copies i a f others k clean e begun = would-sleep-agrees s c at i f others (ap finishes e) begun
+operated-agrees s c Again at copies i a f others k clean e begun = quiet _ refl i
+operated-agrees s c Range at copies i a f others k clean e begun = quiet _ refl i
 
 pub operate-agrees : (s : State) (p : ℕ) (i : ℤ) (wait : Wait) (bytes : List ℕ) → Invariant s → Agrees (doOperate (waker Quick) s p i wait bytes) (doOperate (waker Plain) s p i wait bytes)
 unfolding doOperate
@@ -145,28 +145,28 @@ operate-agrees s p j wait bytes i = checked-agrees (checkOperate s p j bytes) s 
 
     does : Operable s p j wait bytes → Agrees (operated (waker Quick) s c (judged .outcome) (deciderOf judged) (judged .copies)) (operated (waker Plain) s c (judged .outcome) (deciderOf judged) (judged .copies))
     does o =
-        operated-agrees s c (judged .outcome) (deciderOf judged) (judged .copies) i (o .fits) (o .others) (look-fine (s .table) c (i .good) (o .fits))
+        operated-agrees s c (judged .outcome) (deciderOf judged) (judged .copies) i (o .caller) (o .fits) (o .others) (look-fine (s .table) c (i .good) (o .fits))
         (looked-clean (i .counts) (s .table) c (i .good) (o .fits) (i .clean)) refl refl
 
 -- ---- set value
 
-pub setValue-agrees : (s : State) (i : ℤ) (n : ℕ) (v : ℤ) → Invariant s → Agrees (doSetValue (waker Quick) s i n v) (doSetValue (waker Plain) s i n v)
+pub setValue-agrees : (s : State) (p : ℕ) (i : ℤ) (n : ℕ) (v : ℤ) → Invariant s → Agrees (doSetValue (waker Quick) s p i n v) (doSetValue (waker Plain) s p i n v)
 unfolding doSetValue
-setValue-agrees s j n v i = checked-agrees (checkSetValue s j n v) s _ _ i (λ e. does (setValue-passes s j n v e))
+setValue-agrees s p j n v i = checked-agrees (checkSetValue s p j n v) s _ _ i (λ e. does (setValue-passes s p j n v e))
   where
     t : Table
     t = assigned (s .table) (slotOf j) n (natAbs v)
 
-    fits : Assignable s j n v → n < semaphores
+    fits : Assignable s p j n v → n < semaphores
     fits a = omega (arith, a .numbered .number, count-fits (i .counts) (slotOf j))
 
-    stuck : Assignable s j n v → (q : Sleeper) → Fits (s .sets) q → All (λ (o : Operation). q .slot ≡ slotOf j → o .number ≢ n) (operationsOf (q .array))
+    stuck : Assignable s p j n v → (q : Sleeper) → Fits (s .sets) q → All (λ (o : Operation). q .slot ≡ slotOf j → o .number ≢ n) (operationsOf (q .array))
         → couldFinish (s .table) q ≡ false → couldFinish (assigned (s .table) (slotOf j) n (natAbs v)) q ≡ false
     stuck a q f = assigned-stuck (i .counts) (s .table) q (i .good) f (slotOf j) n (natAbs v) (a .numbered .slot) (fits a) (a .value)
 
-    does : Assignable s j n v → Agrees (wokenAs s (waker Quick (slotOf j) (2 ^ n) (world t (s .queue)) 0)) (wokenAs s (waker Plain (slotOf j) (2 ^ n) (world t (s .queue)) 0))
+    does : Assignable s p j n v → Agrees (wokenAs s (waker Quick (slotOf j) (2 ^ n) (world t (s .queue)) 0)) (wokenAs s (waker Plain (slotOf j) (2 ^ n) (world t (s .queue)) 0))
     does a =
-        treated s (slotOf j) (2 ^ n) t i (assigned-good (s .table) (slotOf j) n (natAbs v) (i .good) (a .value))
+        treated s p (slotOf j) (2 ^ n) t i (a .numbered .caller) (assigned-good (s .table) (slotOf j) n (natAbs v) (i .good) (a .value))
         (assigned-clean (s .sets) (s .table) (slotOf j) n (natAbs v) (a .numbered .slot) (a .numbered .number) (fits a) (i .clean))
         (all-zip (λ q f st e m. stuck a q f (all-map (λ o h z. absurd (slot-other (slotOf j) q e z)) (numbers-fit (i .counts) q f)) st) (i .fits) (i .stuck))
         (all-zip (λ q f st e un. stuck a q f (all-map (λ o h z. h) (unnamed-other q n un)) st) (i .fits) (i .stuck))
@@ -179,9 +179,9 @@ every-concerned sets slot q f e un =
     let numbers : All (λ (o : Operation). o .number < countAt sets slot) (operationsOf (q .array)) = rw (slot-mine slot q e) at (f .numbers) in
     at-first {P = λ o. ⊥} sets q f (all-zip (λ o lt z. omega (arith, z, every-bit (countAt sets slot) (o .number) lt)) numbers (untouched q (everyNumber (countAt sets slot)) un))
 
-pub setAll-agrees : (s : State) (i : ℤ) (bytes : List ℕ) → Invariant s → Agrees (doSetAll (waker Quick) s i bytes) (doSetAll (waker Plain) s i bytes)
+pub setAll-agrees : (s : State) (p : ℕ) (i : ℤ) (bytes : List ℕ) → Invariant s → Agrees (doSetAll (waker Quick) s p i bytes) (doSetAll (waker Plain) s p i bytes)
 unfolding doSetAll
-setAll-agrees s j bytes i = checked-agrees (checkSetAll s j bytes) s _ _ i (λ e. does (setAll-passes s j bytes e))
+setAll-agrees s p j bytes i = checked-agrees (checkSetAll s p j bytes) s _ _ i (λ e. does (setAll-passes s p j bytes e))
   where
     slot : ℕ
     slot = slotOf j
@@ -192,11 +192,11 @@ setAll-agrees s j bytes i = checked-agrees (checkSetAll s j bytes) s _ _ i (λ e
     t : Table
     t = assignedAll (s .table) (slotOf j) (held (valuesIn bytes))
 
-    does : AllAssignable s j bytes
+    does : AllAssignable s p j bytes
         → Agrees (wokenAs s (waker Quick (slotOf j) (everyNumber (countAt (s .sets) (slotOf j))) (world t (s .queue)) 0)) (wokenAs s (waker Plain (slotOf j) (everyNumber (countAt (s .sets) (slotOf j))) (world t (s .queue)) 0))
     does a =
         let few : length vs ≤ semaphores = omega (arith, a .count, count-fits (i .counts) (slotOf j)) in
-        treated s slot (everyNumber (countAt (s .sets) slot)) t i (assignedAll-good (s .table) slot vs (i .good) (a .named .slot) (a .values))
+        treated s p slot (everyNumber (countAt (s .sets) slot)) t i (a .caller) (assignedAll-good (s .table) slot vs (i .good) (a .named .slot) (a .values))
         (assignedAll-clean (s .sets) (s .table) slot vs (i .good) (a .named .slot) (a .count) few (i .clean))
         (all-zip (λ q f st e m. assignedAll-stuck (i .counts) (s .table) q (i .good) f slot (a .named .slot) (slot-other slot q e) vs few (a .values) st) (i .fits) (i .stuck))
         (all-map (λ q f e un. absurd (every-concerned (s .sets) slot q f e un)) (i .fits))
@@ -293,10 +293,14 @@ exit-agrees s p i = checked-agrees (checkProcess p) s _ _ i (λ e. does (process
     t = exited (s .table) p
 
     left : State
-    left = record { sets = s .sets; table = s .table; queue = keep (notOf p) (s .queue); time = s .time }
+    left = record { sets = s .sets; callers = s .callers; table = s .table; queue = keep (notOf p) (s .queue); time = s .time }
 
     k : Invariant left
     k = keep-kept s (notOf p) i
+
+    -- the process itself no longer sleeps
+    gone : (1 ≤ p) × (p ≤ processes) → length (left .queue) < processes
+    gone r = fewer-awake p (left .queue) (r .0) (r .1) (all-map (λ q o. eqb-false (q .process) p (not-true _ o)) (keep-test (notOf p) (s .queue))) (k .fits) (k .distinct)
 
     touches : List ℕ
     touches = touchedFrom slots 0 (s .table) t
@@ -327,6 +331,6 @@ exit-agrees s p i = checked-agrees (checkProcess p) s _ _ i (λ e. does (process
         let u : Upto s i (0 + length touches) [] (treatFrom (waker Quick) (s .sets) 0 touches start) (treatFrom (waker Plain) (s .sets) 0 touches start) =
         treatFrom-upto s i 0 touches start start (upto r) in
         woken-agrees s _ _ i (u .world) (u .looks)
-        (omega (arith, treatFrom-looked (waker Plain) (tame Plain) (s .sets) 0 touches start .most, looks-36 (fromSlot 0) (left .queue) (few left k)))
+        (omega (arith, treatFrom-looked (waker Plain) (tame Plain) (s .sets) 0 touches start .most, looks-28 (fromSlot 0) (left .queue) (gone r)))
         (u .calm) (u .clean) (all-zip (λ q f d. d (inl (omega (arith, f .slot, length-touched slots 0 (s .table) t)))) (u .calm .fits) (u .done))
         (treatFrom-keeps Quick (s .sets) (Asleep (InTime s)) (asleep-kept (InTime s)) 0 touches start (k .inTime))

@@ -19,7 +19,8 @@ use Rattle.model.specs.Operation.{operationsOf, isNegative}
 use Rattle.model.specs.Look.{look}
 use Rattle.model.specs.Marks.{mine, maskOf}
 use Rattle.model.specs.Waking.{couldFinish}
-use Rattle.model.specs.Checks.{check, slotOf, namesSet, checkNumber, checkSet}
+use Rattle.model.specs.Checks.{slotOf, checkQuery, checkReadAll}
+use Rattle.model.specs.Permission.{reading}
 use Rattle.model.specs.Counts.{noOperation, stop, stopsAt, forIncrease, forZero, countOf, judgedAt}
 use Rattle.model.specs.Events.{Seen, Answer, Result, answer, checked, nothingSeen, seenAt, doQuery, readAt, readFrom, doReadAll}
 use Rattle.model.specs.WholeSet.{eachFrom, each, shownAt, setChecked, querySet, readsFrom, total, AsQueried, AsRead}
@@ -27,7 +28,7 @@ use Rattle.model.specs.Runs.{All, none, also, Reached, Stuck}
 use Rattle.model.specs.Invariant.{Invariant, countAt}
 use Rattle.model.proofs.Lists.{all-map, all-getD}
 use Rattle.model.proofs.LookLaws.{count-fits}
-use Rattle.model.proofs.CheckLaws.{alive, number-passes, set-passes}
+use Rattle.model.proofs.CheckLaws.{passes-both, alive, query-passes, access-passes}
 use Rattle.model.proofs.Engines.{reached}
 
 -- ---- numbers, one for each semaphore
@@ -53,8 +54,8 @@ module _ (f : ℕ → ℕ) where
 
 -- ---- at each number
 
-module _ (s : State) (i : ℤ) (n : ℕ) where
-  shown-at : n < semaphores → checkSet s i ≡ 0 → {a : Answer} → pos 0 ≡ a .code → getD (s .table .values) (row (slotOf i) + n) 0 ≡ a .value → seenAt s (slotOf i) n ≡ a .seen → AsQueried a (querySet s i) n
+module _ (s : State) (p : ℕ) (i : ℤ) (n : ℕ) where
+  shown-at : n < semaphores → checkReadAll s p i ≡ 0 → {a : Answer} → pos 0 ≡ a .code → getD (s .table .values) (row (slotOf i) + n) 0 ≡ a .value → seenAt s (slotOf i) n ≡ a .seen → AsQueried a (querySet s p i) n
   unfolding querySet shownAt
   shown-at small z {a} ec ev es =
       rw z
@@ -69,15 +70,11 @@ module _ (s : State) (i : ℤ) (n : ℕ) where
       })
 
   -- what a query of that semaphore shows
-  pub set-as-queried : Reached s → checkNumber s i n ≡ 0 → AsQueried (doQuery s i n .answer) (querySet s i) n
-  unfolding doQuery checkNumber checkSet
+  pub set-as-queried : Reached s → checkQuery s p i n ≡ 0 → AsQueried (doQuery s p i n .answer) (querySet s p i) n
+  unfolding doQuery checkQuery
   set-as-queried r z =
-      let small : n < semaphores = omega (arith, number-passes s i n z .number, count-fits (reached r .counts) (slotOf i)) in
-      rw z (shown-at small (named (namesSet (s .sets) i) _ z) refl refl refl)
-    where
-      named : (b : Bool) (later : ℕ) → check (not b) 22 later ≡ 0 → check (not b) 22 0 ≡ 0
-      named true later e = refl
-      named false later e = e
+      let small : n < semaphores = omega (arith, query-passes s p i n z .number, count-fits (reached r .counts) (slotOf i)) in
+      rw z (shown-at small (passes-both (checkReadAll s p i) _ z .0) refl refl refl)
 
 -- ---- what a reading answers
 
@@ -98,10 +95,10 @@ unfolding readsFrom
 read-checked zero s does shown h = h
 read-checked (suc code) s does shown h = record { code = refl; all = refl }
 
-pub set-as-read : (s : State) → Reached s → (i : ℤ) → AsRead (doReadAll s i .answer) (querySet s i)
+pub set-as-read : (s : State) → Reached s → (p : ℕ) (i : ℤ) → AsRead (doReadAll s p i .answer) (querySet s p i)
 unfolding doReadAll querySet shownAt
-set-as-read s r i =
-    read-checked (checkSet s i) s _ (shownAt s (slotOf i))
+set-as-read s r p i =
+    read-checked (checkReadAll s p i) s _ (shownAt s (slotOf i))
     (record { code = refl; all = reads-shown s (slotOf i) 0 (countAt (s .sets) (slotOf i)) (omega (arith, count-fits (reached r .counts) (slotOf i))) })
 
 -- ---- where a sleeper of a state stops: at a semaphore that its set has
@@ -138,11 +135,11 @@ module _ (s : State) (v : Invariant s) where
         rw (v .clean slot n ls l ln .last, increase .0, zeros .0, increase .1, zeros .1)
 
 -- from the set's count on every number is 0
-pub set-beyond : (s : State) → Reached s → (i : ℤ) (n : ℕ) → checkSet s i ≡ 0 → countAt (s .sets) (slotOf i) ≤ n → n < semaphores → AsQueried (answer (pos 0)) (querySet s i) n
-set-beyond s r i n z l small =
+pub set-beyond : (s : State) → Reached s → (p : ℕ) (i : ℤ) (n : ℕ) → checkReadAll s p i ≡ 0 → countAt (s .sets) (slotOf i) ≤ n → n < semaphores → AsQueried (answer (pos 0)) (querySet s p i) n
+set-beyond s r p i n z l small =
     let v = reached r in
-    let ls = set-passes s i z .slot in
-    shown-at s i n small z refl (v .clean (slotOf i) n ls l small .value) (unseen s v (slotOf i) n l ls small)
+    let ls = access-passes s p i reading z .named .slot in
+    shown-at s p i n small z refl (v .clean (slotOf i) n ls l small .value) (unseen s v (slotOf i) n l ls small)
 
 -- ---- the counts of a set add up
 
@@ -221,9 +218,9 @@ module _ (s : State) (v : Invariant s) (slot : ℕ) where
       split tests = total-add (ones-at tests p) (λ (n : ℕ). countOf (tests n) q) 0 semaphores
 
 -- "a sleeper counts once": the counts of all semaphores of a set, added up, are the arrays that were judged
-pub set-adds-up : (s : State) → Reached s → (i : ℤ) → total (querySet s i .increase) + total (querySet s i .zero) ≡ querySet s i .judged
+pub set-adds-up : (s : State) → Reached s → (p : ℕ) (i : ℤ) → total (querySet s p i .increase) + total (querySet s p i .zero) ≡ querySet s p i .judged
 unfolding querySet shownAt seenAt total
-set-adds-up s r i = go (checkSet s i)
+set-adds-up s r p i = go (checkReadAll s p i)
   where
     go : (code : ℕ) → total (setChecked code (shownAt s (slotOf i)) .increase) + total (setChecked code (shownAt s (slotOf i)) .zero) ≡ setChecked code (shownAt s (slotOf i)) .judged
     go zero = let v = reached r in all-add s v (slotOf i) (stops s v) (v .stuck)

@@ -1,5 +1,5 @@
--- The ten events. The engines differ in the waker only.
-use Prim.Native.Nat.{ℕ, zero, suc, _+_, _%_, _^_}
+-- The eleven events. The engines differ in the waker only.
+use Prim.Native.Nat.{ℕ, zero, suc, _+_, _-_, _%_, _^_}
 use mathlib.Core.Bool.{Bool, true, false, cond, not}
 use mathlib.Core.List.{List, [], _∷_, _++_}
 use lib.Dec.{eqb}
@@ -8,6 +8,7 @@ use lib.Seq.{slice, paste, sets}
 use lib.IntN.{ℤ, pos, natAbs, _+ℤ_}
 use lib.Signed.{ltZ}
 use Rattle.model.specs.declared.Set.{Set}
+use Rattle.model.specs.declared.Caller.{Caller}
 use Rattle.model.specs.declared.Outcome.{Outcome}
 use Rattle.model.specs.declared.Outcome.the-variants.{Done, Sleep, Again, Range}
 use Rattle.model.specs.declared.Position.{Position}
@@ -16,52 +17,55 @@ use Rattle.model.specs.declared.Copies.{Copies}
 use Rattle.model.specs.declared.Waking.{Waking}
 use Rattle.model.specs.declared.Wait.{Wait}
 use Rattle.model.specs.declared.Event as declared
-use Rattle.model.specs.declared.Event.the-variants.{Create, Operate, SetValue, Remove, Signal, Exit, Query, SetAll, ReadAll, Clock}
+use Rattle.model.specs.declared.Event.the-variants.{Create, Operate, SetValue, Remove, Signal, Exit, Query, SetAll, ReadAll, Clock, ActAs}
 use Rattle.model.specs.Limits.{slots, processes, valueMax, allSemaphores}
-use Rattle.model.specs.State.{Table, withValues, withAdjustments, Sleeper, State, row, undoRow, clearRows, cleared, freeSet, noSet}
+use Rattle.model.specs.State.{Table, withValues, withAdjustments, Sleeper, Callers, callerOf, State, row, undoRow, clearRows, cleared, freeSet, noSet}
 use Rattle.model.specs.Judge.{codeOf, deciderOf}
 use Rattle.model.specs.Look.{look, applied, valuesOf}
 use Rattle.model.specs.Marks.{mine, differing, everyNumber, maskOf}
 use Rattle.model.specs.Waking.{World, Ended, Waker, waking}
 use Rattle.model.specs.Clock.{due, notDue, atOnce}
 use Rattle.model.specs.Values.{valuesIn, held}
-use Rattle.model.specs.Checks.{live, identifierOf, slotOf, freeSlot, checkCreate, checkOperate, checkNumber, checkSetValue, checkSetAll, checkSet, checkProcess, checkClock}
+use Rattle.model.specs.Checks.{live, identifierOf, slotOf, freeSlot, checkCaller, checkCreate, checkOperate, checkQuery, checkSetValue, checkSetAll, checkReadAll, checkRemove, checkProcess, checkClock}
 use Rattle.model.specs.Counts.{forIncrease, forZero, countOf}
 
 pub data Event : Type 0 where
-  -- count, read mask, alter mask
+  -- process, count, the nine permission bits
   create : ℕ → ℕ → ℕ → Event
   -- process, identifier, "a wait in milliseconds or none", the bytes of the operations
   operate : ℕ → ℤ → Wait → List ℕ → Event
-  -- identifier, number, value
-  setValue : ℤ → ℕ → ℤ → Event
-  -- identifier
-  remove : ℤ → Event
+  -- process, identifier, number, value
+  setValue : ℕ → ℤ → ℕ → ℤ → Event
+  -- process, identifier
+  remove : ℕ → ℤ → Event
   -- process
   signal : ℕ → Event
   -- process
   exit : ℕ → Event
-  -- identifier, number
-  query : ℤ → ℕ → Event
-  -- identifier, the bytes of the values
-  setAll : ℤ → List ℕ → Event
-  -- identifier
-  readAll : ℤ → Event
+  -- process, identifier, number
+  query : ℕ → ℤ → ℕ → Event
+  -- process, identifier, the bytes of the values
+  setAll : ℕ → ℤ → List ℕ → Event
+  -- process, identifier
+  readAll : ℕ → ℤ → Event
   -- "the present time"
   clock : ℕ → Event
+  -- process, user, group
+  actAs : ℕ → ℕ → ℕ → Event
 
 -- the event that is meant by one that is handed in, with the bytes beside it: an operate's operations, or a setting's values
 abbrev pub eventOf : declared.Event → List ℕ → Event
-eventOf (Create count read alter) bytes = create count read alter
+eventOf (Create process count mode) bytes = create process count mode
 eventOf (Operate process identifier wait) bytes = operate process identifier wait bytes
-eventOf (SetValue identifier number value) bytes = setValue identifier number value
-eventOf (Remove identifier) bytes = remove identifier
+eventOf (SetValue process identifier number value) bytes = setValue process identifier number value
+eventOf (Remove process identifier) bytes = remove process identifier
 eventOf (Signal process) bytes = signal process
 eventOf (Exit process) bytes = exit process
-eventOf (Query identifier number) bytes = query identifier number
-eventOf (SetAll identifier) bytes = setAll identifier bytes
-eventOf (ReadAll identifier) bytes = readAll identifier
+eventOf (Query process identifier number) bytes = query process identifier number
+eventOf (SetAll process identifier) bytes = setAll process identifier bytes
+eventOf (ReadAll process identifier) bytes = readAll process identifier
 eventOf (Clock time) bytes = clock time
+eventOf (ActAs process user group) bytes = actAs process user group
 
 -- how an event is answered: a query with what it saw, a reading with what it read, any other with what it tells
 pub data Form : Type 0 where
@@ -70,16 +74,17 @@ pub data Form : Type 0 where
   asRead : Form
 
 abbrev pub formOf : Event → Form
-formOf (create count read alter) = asTold
+formOf (create process count mode) = asTold
 formOf (operate process identifier wait operations) = asTold
-formOf (setValue identifier number value) = asTold
-formOf (remove identifier) = asTold
+formOf (setValue process identifier number value) = asTold
+formOf (remove process identifier) = asTold
 formOf (signal process) = asTold
 formOf (exit process) = asTold
-formOf (query identifier number) = asSeen
-formOf (setAll identifier values) = asTold
-formOf (readAll identifier) = asRead
+formOf (query process identifier number) = asSeen
+formOf (setAll process identifier values) = asTold
+formOf (readAll process identifier) = asRead
 formOf (clock time) = asTold
+formOf (actAs process user group) = asTold
 
 -- what a query shows beside the value; zeros in every other answer
 pub record Seen : Type 0 where
@@ -200,7 +205,7 @@ abbrev pub wokenAs : State → Ended → Result
 wokenAs s e =
     record {
       answer = answer (pos 0);
-      state = record { sets = s .sets; table = e .world .table; queue = e .world .queue; time = s .time };
+      state = record { sets = s .sets; callers = s .callers; table = e .world .table; queue = e .world .queue; time = s .time };
       looks = e .looks;
       wakings = e .world .wakings;
     }
@@ -210,15 +215,20 @@ world t q = record { table = t; queue = q; wakings = [] }
 
 -- ---- the events
 
+-- a set that a caller makes in a slot of a generation: "the owner is the caller's user and the owning group its group"
+abbrev pub madeBy : Caller → ℕ → ℕ → ℕ → Set
+madeBy c generation count mode = record { generation = generation; count = count; owner = c .user; group = c .group; mode = mode }
+
 -- "Create takes the lowest free slot, with values, adjustments and last processes at 0; its value is the identifier."
 unfoldable pub doCreate : State → ℕ → ℕ → ℕ → Result
-doCreate s count read alter =
+doCreate s p count mode =
     let slot = freeSlot (s .sets) in
-    checked (checkCreate s count) s
+    checked (checkCreate s p count mode) s
     (record {
       answer = record { code = pos 0; position = Nowhere; value = identifierOf (s .sets) slot; seen = nothingSeen; all = [] };
       state = record {
-        sets = set (s .sets) slot (record { generation = getD (s .sets) slot noSet .generation; count = count; read = read; alter = alter });
+        sets = set (s .sets) slot (madeBy (callerOf (s .callers) p) (getD (s .sets) slot noSet .generation) count mode);
+        callers = s .callers;
         table = cleared (s .table) slot;
         queue = s .queue;
         time = s .time;
@@ -231,7 +241,7 @@ doCreate s count read alter =
 unfoldable pub wouldSleep : State → Sleeper → Position → Result
 wouldSleep s c position =
     cond (atOnce (c .wait)) (refusedAt s 11 position)
-    (record { answer = answerAt (codeOf Sleep) position; state = record { sets = s .sets; table = s .table; queue = s .queue ++ c ∷ []; time = s .time }; looks = 0; wakings = [] })
+    (record { answer = answerAt (codeOf Sleep) position; state = record { sets = s .sets; callers = s .callers; table = s .table; queue = s .queue ++ c ∷ []; time = s .time }; looks = 0; wakings = [] })
 
 -- an array that passed the checks, as it was judged: the copy becomes the state and the set is treated; or it would sleep; or it is
 -- refused
@@ -254,20 +264,21 @@ doOperate wake s p i wait bytes =
     checked (checkOperate s p i bytes) s (operated wake s c (j .outcome) (deciderOf j) (j .copies))
 
 -- touched is "in set value always the named one"; no other value differs
-unfoldable pub doSetValue : Waker → State → ℤ → ℕ → ℤ → Result
-doSetValue wake s i n v =
-    checked (checkSetValue s i n v) s
+unfoldable pub doSetValue : Waker → State → ℕ → ℤ → ℕ → ℤ → Result
+doSetValue wake s p i n v =
+    checked (checkSetValue s p i n v) s
     (wokenAs s (wake (slotOf i) (2 ^ n) (world (assigned (s .table) (slotOf i) n (natAbs v)) (s .queue)) 0))
 
 -- "Remove ends the set's sleepers with 43, oldest first, frees the slot, and puts all of it, adjustments too, to 0 but its
 -- generation", which "goes up by one at each removal and goes from 65,535 round to 0"
-unfoldable pub doRemove : State → ℤ → Result
-doRemove s i =
+unfoldable pub doRemove : State → ℕ → ℤ → Result
+doRemove s p i =
     let slot = slotOf i in
-    checked (checkSet s i) s
+    checked (checkRemove s p i) s
     (doneWith
     (record {
       sets = set (s .sets) slot (freeSet ((getD (s .sets) slot noSet .generation + 1) % 65536));
+      callers = s .callers;
       table = cleared (s .table) slot;
       queue = keep (notMine slot) (s .queue);
       time = s .time;
@@ -279,12 +290,12 @@ unfoldable pub doSignal : State → ℕ → Result
 doSignal s p =
     checked (checkProcess p) s
     (doneWith
-    (record { sets = s .sets; table = s .table; queue = keep (notOf p) (s .queue); time = s .time })
+    (record { sets = s .sets; callers = s .callers; table = s .table; queue = keep (notOf p) (s .queue); time = s .time })
     (endedWith (pos 4) (isOf p) (s .queue)))
 
 -- the state at a new time: nobody who is due sleeps on
 abbrev pub atTime : State → ℕ → State
-atTime s now = record { sets = s .sets; table = s .table; queue = keep (notDue now) (s .queue); time = now }
+atTime s now = record { sets = s .sets; callers = s .callers; table = s .table; queue = keep (notDue now) (s .queue); time = now }
 
 -- "A sleeper whose start plus wait is at or below the new time ends with 11, oldest first, as a listed waking"; "Expiry has no looks."
 unfoldable pub doClock : State → ℕ → Result
@@ -322,9 +333,9 @@ seenAt s slot n =
       zeroMask = maskOf (forZero (s .table) slot n) 0 (s .queue);
     }
 
-unfoldable pub doQuery : State → ℤ → ℕ → Result
-doQuery s i n =
-    checked (checkNumber s i n) s
+unfoldable pub doQuery : State → ℕ → ℤ → ℕ → Result
+doQuery s p i n =
+    checked (checkQuery s p i n) s
     (record {
       answer = record { code = pos 0; position = Nowhere; value = getD (s .table .values) (row (slotOf i) + n) 0; seen = seenAt s (slotOf i) n; all = [] };
       state = s;
@@ -333,11 +344,11 @@ doQuery s i n =
     })
 
 -- "all values are set, .., and its sleepers treated, every semaphore touched"
-unfoldable pub doSetAll : Waker → State → ℤ → List ℕ → Result
-doSetAll wake s i bytes =
+unfoldable pub doSetAll : Waker → State → ℕ → ℤ → List ℕ → Result
+doSetAll wake s p i bytes =
     let slot = slotOf i in
     let t = assignedAll (s .table) slot (held (valuesIn bytes)) in
-    checked (checkSetAll s i bytes) s
+    checked (checkSetAll s p i bytes) s
     (wokenAs s (wake slot (everyNumber (getD (s .sets) slot noSet .count)) (world t (s .queue)) 0))
 
 -- what is read of a semaphore, and of n semaphores from the k-th on
@@ -350,9 +361,9 @@ readFrom s slot k zero = []
 readFrom s slot k (suc n) = readAt s slot k ∷ readFrom s slot (k + 1) n
 
 -- "Reading gives values in order, and with them both wait counts": of each semaphore below the count
-unfoldable pub doReadAll : State → ℤ → Result
-doReadAll s i =
-    checked (checkSet s i) s
+unfoldable pub doReadAll : State → ℕ → ℤ → Result
+doReadAll s p i =
+    checked (checkReadAll s p i) s
     (record {
       answer = record { code = pos 0; position = Nowhere; value = 0; seen = nothingSeen; all = readFrom s (slotOf i) 0 (getD (s .sets) (slotOf i) noSet .count) };
       state = s;
@@ -360,19 +371,32 @@ doReadAll s i =
       wakings = [];
     })
 
+-- the callers with other numbers of a process
+abbrev pub withCaller : Callers → ℕ → Caller → Callers
+withCaller cs p c = record { users = set (cs .users) (p - 1) (c .user); groups = set (cs .groups) (p - 1) (c .group) }
+
+-- "Give each process a user and a group number (set by an event ..)": it asks no permission
+unfoldable pub doActAs : State → ℕ → ℕ → ℕ → Result
+doActAs s p user group =
+    checked (checkCaller s p) s
+    (doneWith
+    (record { sets = s .sets; callers = withCaller (s .callers) p (record { user = user; group = group }); table = s .table; queue = s .queue; time = s .time })
+    [])
+
 -- "value, for increase, for zero of each semaphore"
 unfoldable pub numbersOf : List Read → List ℕ
 numbersOf [] = []
 numbersOf (r ∷ rs) = r .value ∷ r .increase ∷ r .zero ∷ numbersOf rs
 
 unfoldable pub event : Waker → State → Event → Result
-event wake s (create count read alter) = doCreate s count read alter
+event wake s (create p count mode) = doCreate s p count mode
 event wake s (operate p i wait bytes) = doOperate wake s p i wait bytes
-event wake s (setValue i n v) = doSetValue wake s i n v
-event wake s (remove i) = doRemove s i
+event wake s (setValue p i n v) = doSetValue wake s p i n v
+event wake s (remove p i) = doRemove s p i
 event wake s (signal p) = doSignal s p
 event wake s (exit p) = doExit wake s p
-event wake s (query i n) = doQuery s i n
-event wake s (setAll i bytes) = doSetAll wake s i bytes
-event wake s (readAll i) = doReadAll s i
+event wake s (query p i n) = doQuery s p i n
+event wake s (setAll p i bytes) = doSetAll wake s p i bytes
+event wake s (readAll p i) = doReadAll s p i
 event wake s (clock now) = doClock s now
+event wake s (actAs p user group) = doActAs s p user group

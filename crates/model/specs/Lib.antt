@@ -2,6 +2,7 @@
 pub mod Limits
 pub mod State
 pub mod Operation
+pub mod Permission
 pub mod Judge
 pub mod Look
 pub mod Marks

@@ -19,6 +19,10 @@ operations = 32
 abbrev pub valueMax : ℕ
 valueMax = 32767
 
+-- nine permission bits, all on
+abbrev pub modeMax : ℕ
+modeMax = 511
+
 -- the latest time that can be told: 2^63-1
 abbrev pub timeMax : ℕ
 timeMax = 9223372036854775807

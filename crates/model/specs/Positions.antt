@@ -17,7 +17,7 @@ use Rattle.model.specs.Judge.{judge}
 use Rattle.model.specs.Look.{copiesOf}
 use Rattle.model.specs.Waking.{waking}
 use Rattle.model.specs.Checks.{checkOperate}
-use Rattle.model.specs.Events.{Event, create, operate, setValue, remove, signal, exit, query, setAll, readAll, clock, Answer, Result, call}
+use Rattle.model.specs.Events.{Event, create, operate, setValue, remove, signal, exit, query, setAll, readAll, clock, actAs, Answer, Result, call}
 use Rattle.model.specs.Runs.{All}
 
 -- The operation at a position decides how an array is judged: the operations before it, judged alone on the same copies, are done;
@@ -48,29 +48,31 @@ pub record CallNamed (s : State) (p : ℕ) (i : ℤ) (wait : Wait) (bytes : List
 
 -- No other event's answer names one.
 abbrev pub Named : State → Event → Answer → Type 0
-Named s (create count read alter) a = a .position ≡ Nowhere
+Named s (create p count mode) a = a .position ≡ Nowhere
 Named s (operate p i wait bytes) a = CallNamed s p i wait bytes a
-Named s (setValue i n v) a = a .position ≡ Nowhere
-Named s (remove i) a = a .position ≡ Nowhere
+Named s (setValue p i n v) a = a .position ≡ Nowhere
+Named s (remove p i) a = a .position ≡ Nowhere
 Named s (signal p) a = a .position ≡ Nowhere
 Named s (exit p) a = a .position ≡ Nowhere
-Named s (query i n) a = a .position ≡ Nowhere
-Named s (setAll i bytes) a = a .position ≡ Nowhere
-Named s (readAll i) a = a .position ≡ Nowhere
+Named s (query p i n) a = a .position ≡ Nowhere
+Named s (setAll p i bytes) a = a .position ≡ Nowhere
+Named s (readAll p i) a = a .position ≡ Nowhere
 Named s (clock now) a = a .position ≡ Nowhere
+Named s (actAs p user group) a = a .position ≡ Nowhere
 
 -- The clock alone ends sleepers by expiry, and in no other way.
 abbrev pub WakingOf : Event → Waking → Type 0
-WakingOf (create count read alter) w = WakingNamed w
+WakingOf (create p count mode) w = WakingNamed w
 WakingOf (operate p i wait bytes) w = WakingNamed w
-WakingOf (setValue i n v) w = WakingNamed w
-WakingOf (remove i) w = WakingNamed w
+WakingOf (setValue p i n v) w = WakingNamed w
+WakingOf (remove p i) w = WakingNamed w
 WakingOf (signal p) w = WakingNamed w
 WakingOf (exit p) w = WakingNamed w
-WakingOf (query i n) w = WakingNamed w
-WakingOf (setAll i bytes) w = WakingNamed w
-WakingOf (readAll i) w = WakingNamed w
+WakingOf (query p i n) w = WakingNamed w
+WakingOf (setAll p i bytes) w = WakingNamed w
+WakingOf (readAll p i) w = WakingNamed w
 WakingOf (clock now) w = Expired w
+WakingOf (actAs p user group) w = WakingNamed w
 
 -- what is claimed of one event
 pub record Names (s : State) (e : Event) (r : Result) : Type 0 where

@@ -40,12 +40,12 @@ pub data Pairwise {A : Type 0} (P : A → A → Type 0) : List A → List A → 
   next : {x y : A} {xs ys : List A} → P x y → Pairwise P xs ys → Pairwise P (x ∷ xs) (y ∷ ys)
 
 -- one event in the quick and in the plain engine: "apart from looks both engines give the same answers and the same wakings in
--- the same order"; "at each event quick ≤ plain ≤ 36"
+-- the same order"; "at each event quick ≤ plain ≤ 28"
 pub record Alike (quick plain : Result) : Type 0 where
   pub answer : quick .answer ≡ plain .answer
   pub wakings : quick .wakings ≡ plain .wakings
   pub fewer : quick .looks ≤ plain .looks
-  pub bounded : plain .looks ≤ 36
+  pub bounded : plain .looks ≤ 28
 
 -- "A sleeper could finish if its array, judged on the state as it stands, gives anything but sleep."
 abbrev pub Stuck : State → Sleeper → Type 0

@@ -1,6 +1,6 @@
 -- "Situations on the reviewer's desk", and from 14 on those that show rules of document 02: a table of events and of what each
 -- must show. proofs/Situations.antt proves every row.
-use Prim.Native.Nat.{ℕ, zero, suc, _+_, _-_, _/_, _%_}
+use Prim.Native.Nat.{ℕ, zero, suc, _+_, _*_, _-_, _/_, _%_}
 use mathlib.Core.Path.{_≡_}
 use mathlib.Core.List.{List, [], _∷_, _++_, map}
 use lib.ListN.{replicate}
@@ -10,10 +10,11 @@ use Rattle.model.specs.declared.Engine.the-variants.{Plain, Quick}
 use Rattle.model.specs.declared.Position.the-variants.{Nowhere, At}
 use Rattle.model.specs.declared.Waking.{Waking}
 use Rattle.model.specs.declared.Wait.the-variants.{Endless, Milliseconds}
-use Rattle.model.specs.State.{State, freeSet, freshTable, freshState}
+use Rattle.model.specs.Limits.{processes}
+use Rattle.model.specs.State.{Callers, State, freeSet, freshTable, freshCallers, freshState}
 use Rattle.model.specs.Waking.{waking}
 use Rattle.model.specs.Events as events
-use Rattle.model.specs.Events.{Event, create, setValue, remove, exit, query, setAll, readAll, clock, Read, Answer, answerAt, answer, nothingSeen, Result}
+use Rattle.model.specs.Events.{Event, create, setValue, remove, exit, query, setAll, readAll, clock, actAs, Read, Answer, answerAt, answer, nothingSeen, Result}
 use Rattle.model.specs.Runs.{run}
 
 -- ---- operations and values
@@ -146,9 +147,14 @@ done = pos 0
 abbrev asleep : ℤ
 asleep = minus 1
 
--- on a fresh host, a set with so many semaphores and all permissions, whose identifier is 0
+-- the nine permission bits: of the owner, of the owning group, of any other
+abbrev bits : ℕ → ℕ → ℕ → ℕ
+bits owner group other = owner * 64 + group * 8 + other
+
+-- on a fresh host, a set with so many semaphores that all may read and alter, whose identifier is 0. Process 8 makes it, and sets,
+-- reads and removes it in the rows below: it is awake all the while.
 abbrev fresh : ℕ → List Step → Situation
-fresh count steps = record { start = freshState; steps = tells (create count 255 255) 0 ∷ steps }
+fresh count steps = record { start = freshState; steps = tells (create 8 count (bits 6 6 6)) 0 ∷ steps }
 
 -- the set of these rows, and a second one
 abbrev set0 : ℤ
@@ -162,7 +168,7 @@ abbrev pub situation1 : Situation
 situation1 =
     fresh 1
     (gives (operate 1 set0 (op 0 (pos 1) none ++ op 0 (minus 1) none)) done
-    ∷ sees (query set0 0) 0 1
+    ∷ sees (query 8 set0 0) 0 1
     ∷ stops (operate 1 set0 (op 0 (minus 1) none ++ op 0 (pos 1) none)) asleep 0
     ∷ [])
 
@@ -170,18 +176,18 @@ situation1 =
 abbrev pub situation2 : Situation
 situation2 =
     fresh 1
-    (gives (setValue set0 0 (pos 32766)) done
+    (gives (setValue 8 set0 0 (pos 32766)) done
     ∷ gives (operate 1 set0 (op 0 (pos 1) none)) done
-    ∷ sees (query set0 0) 32767 1
+    ∷ sees (query 8 set0 0) 32767 1
     ∷ stops (operate 2 set0 (op 0 (pos 1) none)) (pos 34) 0
-    ∷ sees (query set0 0) 32767 1
+    ∷ sees (query 8 set0 0) 32767 1
     ∷ [])
 
 -- 3: 32,767 and -32,768 with IPC_NOWAIT: 11; without: asleep.
 abbrev pub situation3 : Situation
 situation3 =
     fresh 1
-    (gives (setValue set0 0 (pos 32767)) done
+    (gives (setValue 8 set0 0 (pos 32767)) done
     ∷ stops (operate 1 set0 (op 0 (minus 32768) noWait)) (pos 11) 0
     ∷ stops (operate 1 set0 (op 0 (minus 32768) none)) asleep 0
     ∷ [])
@@ -193,7 +199,7 @@ situation4 =
     (gives (operate 1 set0 (op 0 (pos 3) undo)) done
     ∷ gives (operate 2 set0 (op 0 (minus 2) none)) done
     ∷ gives (exit 1) done
-    ∷ sees (query set0 0) 0 2
+    ∷ sees (query 8 set0 0) 0 2
     ∷ [])
 
 -- 5: value 0, -10 with undo after +10 without; another adds 32,765; exit: 32,767.
@@ -204,18 +210,18 @@ situation5 =
     ∷ gives (operate 1 set0 (op 0 (minus 10) undo)) done
     ∷ gives (operate 2 set0 (op 0 (pos 32765) none)) done
     ∷ gives (exit 1) done
-    ∷ sees (query set0 0) 32767 2
+    ∷ sees (query 8 set0 0) 32767 2
     ∷ [])
 
 -- 6: value 5, -5 with undo, set value 1, exit: value 1.
 abbrev pub situation6 : Situation
 situation6 =
     fresh 1
-    (gives (setValue set0 0 (pos 5)) done
+    (gives (setValue 8 set0 0 (pos 5)) done
     ∷ gives (operate 1 set0 (op 0 (minus 5) undo)) done
-    ∷ gives (setValue set0 0 (pos 1)) done
+    ∷ gives (setValue 8 set0 0 (pos 1)) done
     ∷ gives (exit 1) done
-    ∷ sees (query set0 0) 1 1
+    ∷ sees (query 8 set0 0) 1 1
     ∷ [])
 
 -- 7: asleep on (0,+5),(1,-1) with values 0; set value of 0 to 32,765: woken with 34.
@@ -223,8 +229,8 @@ abbrev pub situation7 : Situation
 situation7 =
     fresh 2
     (stops (operate 1 set0 (op 0 (pos 5) none ++ op 1 (minus 1) none)) asleep 1
-    ∷ wakes (setValue set0 0 (pos 32765)) 1 1 (ended 1 (pos 34) 0 ∷ [])
-    ∷ sees (query set0 0) 32765 0
+    ∷ wakes (setValue 8 set0 0 (pos 32765)) 1 1 (ended 1 (pos 34) 0 ∷ [])
+    ∷ sees (query 8 set0 0) 32765 0
     ∷ [])
 
 -- 8: asleep on (0,0,IPC_NOWAIT),(1,-1); set value of 0 to 1: woken with 11.
@@ -232,8 +238,8 @@ abbrev pub situation8 : Situation
 situation8 =
     fresh 2
     (stops (operate 1 set0 (op 0 (pos 0) noWait ++ op 1 (minus 1) none)) asleep 1
-    ∷ wakes (setValue set0 0 (pos 1)) 1 1 (ended 1 (pos 11) 0 ∷ [])
-    ∷ sees (query set0 0) 1 0
+    ∷ wakes (setValue 8 set0 0 (pos 1)) 1 1 (ended 1 (pos 11) 0 ∷ [])
+    ∷ sees (query 8 set0 0) 1 0
     ∷ [])
 
 -- 9: +32,767 with undo on 0, another process -1, then +1 with undo: 34.
@@ -254,8 +260,8 @@ situation10 =
     ∷ wakes (operate 3 set0 (op 0 (pos 1) none)) 3 3 (woken 2 (pos 0) ∷ [])
     ∷ [])
 
--- 11: eight sleepers, number j (process j + 1) on (j,-1),(j-1,+1), number 0 on (0,-1) alone, in order 0 to 7. Set value of 7 to 1
--- wakes all, 7 first: 36 plain looks, 8 quick.
+-- 11: seven sleepers, number j (process j + 1) on (j,-1),(j-1,+1), number 0 on (0,-1) alone, in order 0 to 6. Set value of 6 to 1
+-- wakes all, 6 first: 28 plain looks, 7 quick.
 abbrev link : ℕ → Step
 link j = stops (operate (j + 1) set0 (op j (minus 1) none ++ op (j - 1) (pos 1) none)) asleep 0
 
@@ -269,8 +275,7 @@ situation11 =
     ∷ link 4
     ∷ link 5
     ∷ link 6
-    ∷ link 7
-    ∷ wakes (setValue set0 7 (pos 1)) 36 8 (map (λ (p : ℕ). woken p (pos 0)) (8 ∷ 7 ∷ 6 ∷ 5 ∷ 4 ∷ 3 ∷ 2 ∷ 1 ∷ []))
+    ∷ wakes (setValue 8 set0 6 (pos 1)) 28 7 (map (λ (p : ℕ). woken p (pos 0)) (7 ∷ 6 ∷ 5 ∷ 4 ∷ 3 ∷ 2 ∷ 1 ∷ []))
     ∷ [])
 
 -- 12: slot 0 with identifier 0, sleepers 3 and 5, removed: 3=43 5=43; the next create gives 4; identifier 0 is 22.
@@ -279,9 +284,9 @@ situation12 =
     fresh 1
     (stops (operate 3 set0 (op 0 (minus 1) none)) asleep 0
     ∷ stops (operate 5 set0 (op 0 (minus 1) none)) asleep 0
-    ∷ wakes (remove set0) 0 0 (woken 3 (pos 43) ∷ woken 5 (pos 43) ∷ [])
-    ∷ tells (create 1 255 255) 4
-    ∷ gives (query set0 0) (pos 22)
+    ∷ wakes (remove 8 set0) 0 0 (woken 3 (pos 43) ∷ woken 5 (pos 43) ∷ [])
+    ∷ tells (create 8 1 (bits 6 6 6)) 4
+    ∷ gives (query 8 set0 0) (pos 22)
     ∷ [])
 
 -- Identifier 262,140 removed: the next in that slot is 0. (A set in slot 0 that was removed 65,535 times before.)
@@ -289,12 +294,13 @@ abbrev pub situation12b : Situation
 situation12b =
     record {
       start = record {
-        sets = record { generation = 65535; count = 1; read = 255; alter = 255 } ∷ replicate 3 (freeSet 0);
+        sets = record { generation = 65535; count = 1; owner = 0; group = 0; mode = bits 6 6 6 } ∷ replicate 3 (freeSet 0);
+        callers = freshCallers;
         table = freshTable;
         queue = [];
         time = 0;
       };
-      steps = gives (remove (pos 262140)) done ∷ tells (create 1 255 255) 0 ∷ [];
+      steps = gives (remove 8 (pos 262140)) done ∷ tells (create 8 1 (bits 6 6 6)) 0 ∷ [];
     }
 
 -- 13: thirty-two operations are judged, thirty-three are 7, and 199 bytes, which are not whole, 22; number 7 in a set of 8 is
@@ -303,7 +309,7 @@ abbrev pub situation13 : Situation
 situation13 =
     fresh 8
     (gives (operate 1 set0 (times 32 (op 7 (pos 1) none))) done
-    ∷ sees (query set0 7) 32 1
+    ∷ sees (query 8 set0 7) 32 1
     ∷ gives (operate 1 set0 (times 33 (op 7 (pos 1) none))) (pos 7)
     ∷ gives (operate 1 set0 (times 33 (op 7 (pos 1) none) ++ 0 ∷ [])) (pos 22)
     ∷ gives (operate 1 set0 (op 8 (pos 1) none)) (pos 27)
@@ -313,22 +319,22 @@ situation13 =
 abbrev pub situation14 : Situation
 situation14 =
     fresh 1
-    (sees (query set0 0) 0 0
+    (sees (query 8 set0 0) 0 0
     ∷ gives (operate 4 set0 (op 0 (pos 0) none)) done
-    ∷ sees (query set0 0) 0 4
+    ∷ sees (query 8 set0 0) 0 4
     ∷ [])
 
 -- 15: process 2 asleep on (0,0),(1,0) with values 1 and 0; process 3 does -1 on 0: 2 is woken, and is the last process of both.
 abbrev pub situation15 : Situation
 situation15 =
     fresh 2
-    (gives (setValue set0 0 (pos 1)) done
+    (gives (setValue 8 set0 0 (pos 1)) done
     ∷ stops (operate 2 set0 (op 0 (pos 0) none ++ op 1 (pos 0) none)) asleep 0
-    ∷ answers (query set0 0) (record { code = done; position = Nowhere; value = 1; seen = record { last = 0; increase = 0; zero = 1; increaseMask = 0; zeroMask = 2 }; all = [] })
-    ∷ sees (query set0 1) 0 0
+    ∷ answers (query 8 set0 0) (record { code = done; position = Nowhere; value = 1; seen = record { last = 0; increase = 0; zero = 1; increaseMask = 0; zeroMask = 2 }; all = [] })
+    ∷ sees (query 8 set0 1) 0 0
     ∷ wakes (operate 3 set0 (op 0 (minus 1) none)) 1 1 (woken 2 (pos 0) ∷ [])
-    ∷ sees (query set0 0) 0 2
-    ∷ sees (query set0 1) 0 2
+    ∷ sees (query 8 set0 0) 0 2
+    ∷ sees (query 8 set0 1) 0 2
     ∷ [])
 
 -- 16: the operation that decided is named by its position. (0,+1),(1,-1) on values 0: asleep at 1; with IPC_NOWAIT on the second:
@@ -345,7 +351,7 @@ situation16 =
     ∷ gives (operate 4 set0 (op 0 (minus 2) none)) done
     ∷ stops (operate 3 set0 (op 1 (pos 1) undo ++ op 0 (pos 1) undo)) (pos 34) 1
     ∷ gives (operate 3 set0 (op 0 (pos 1) none ++ op 2 (pos 1) none)) (pos 27)
-    ∷ gives (setValue set0 0 (pos 40000)) (pos 34)
+    ∷ gives (setValue 8 set0 0 (pos 40000)) (pos 34)
     ∷ [])
 
 -- 17: a waking names the operation where that look decided. Asleep at 0 on (0,-1),(1,0,IPC_NOWAIT) with values 0 and 1: when 0
@@ -353,13 +359,13 @@ situation16 =
 abbrev pub situation17 : Situation
 situation17 =
     fresh 2
-    (gives (setValue set0 1 (pos 1)) done
+    (gives (setValue 8 set0 1 (pos 1)) done
     ∷ stops (operate 1 set0 (op 0 (minus 1) none ++ op 1 (pos 0) noWait)) asleep 0
-    ∷ wakes (setValue set0 0 (pos 1)) 1 1 (ended 1 (pos 11) 1 ∷ [])
-    ∷ gives (setValue set0 0 (pos 0)) done
+    ∷ wakes (setValue 8 set0 0 (pos 1)) 1 1 (ended 1 (pos 11) 1 ∷ [])
+    ∷ gives (setValue 8 set0 0 (pos 0)) done
     ∷ stops (operate 1 set0 (op 0 (minus 1) none ++ op 1 (pos 32767) none)) asleep 0
     ∷ wakes (operate 2 set0 (op 0 (pos 1) none)) 1 1 (ended 1 (pos 34) 1 ∷ [])
-    ∷ sees (query set0 1) 1 0
+    ∷ sees (query 8 set0 1) 1 0
     ∷ [])
 
 -- 18: a call may sleep on thirty-two operations. Process 1 on (0,+1) thirty-one times and (1,-1): asleep at 31. Process 2 on
@@ -369,9 +375,9 @@ situation18 =
     fresh 2
     (stops (operate 1 set0 (times 31 (op 0 (pos 1) none) ++ op 1 (minus 1) none)) asleep 31
     ∷ stops (operate 2 set0 (op 1 (minus 2) none ++ times 30 (op 0 (pos 1) none) ++ op 0 (pos 32767) none)) asleep 0
-    ∷ wakes (setValue set0 1 (pos 3)) 2 2 (woken 1 (pos 0) ∷ ended 2 (pos 34) 31 ∷ [])
-    ∷ sees (query set0 0) 31 1
-    ∷ sees (query set0 1) 2 1
+    ∷ wakes (setValue 8 set0 1 (pos 3)) 2 2 (woken 1 (pos 0) ∷ ended 2 (pos 34) 31 ∷ [])
+    ∷ sees (query 8 set0 0) 31 1
+    ∷ sees (query 8 set0 1) 2 1
     ∷ [])
 
 -- 19: all values at once. Asleep: process 1 on (0,-1),(1,-1), then 2 on (0,-1). Both set to 1 at once: the older is woken, 2 sleeps
@@ -381,14 +387,14 @@ situation19 =
     fresh 2
     (stops (operate 1 set0 (op 0 (minus 1) none ++ op 1 (minus 1) none)) asleep 0
     ∷ stops (operate 2 set0 (op 0 (minus 1) none)) asleep 0
-    ∷ wakes (setAll set0 (values (pos 1 ∷ pos 1 ∷ []))) 2 2 (woken 1 (pos 0) ∷ [])
-    ∷ reads (readAll set0) (at 0 1 0 ∷ at 0 0 0 ∷ [])
-    ∷ tells (create 2 255 255) 1
+    ∷ wakes (setAll 8 set0 (values (pos 1 ∷ pos 1 ∷ []))) 2 2 (woken 1 (pos 0) ∷ [])
+    ∷ reads (readAll 8 set0) (at 0 1 0 ∷ at 0 0 0 ∷ [])
+    ∷ tells (create 8 2 (bits 6 6 6)) 1
     ∷ stops (operate 3 set1 (op 0 (minus 1) none ++ op 1 (minus 1) none)) asleep 0
     ∷ stops (operate 4 set1 (op 0 (minus 1) none)) asleep 0
-    ∷ wakes (setValue set1 0 (pos 1)) 3 3 (woken 4 (pos 0) ∷ [])
-    ∷ wakes (setValue set1 1 (pos 1)) 1 1 []
-    ∷ reads (readAll set1) (at 0 1 0 ∷ at 1 0 0 ∷ [])
+    ∷ wakes (setValue 8 set1 0 (pos 1)) 3 3 (woken 4 (pos 0) ∷ [])
+    ∷ wakes (setValue 8 set1 1 (pos 1)) 1 1 []
+    ∷ reads (readAll 8 set1) (at 0 1 0 ∷ at 1 0 0 ∷ [])
     ∷ [])
 
 -- 20: a setting with one bad value changes nothing, whichever it is; so does one with too few or too many values, and 22 is tested
@@ -396,18 +402,18 @@ situation19 =
 abbrev pub situation20 : Situation
 situation20 =
     fresh 3
-    (gives (setAll set0 (values (pos 1 ∷ pos 0 ∷ pos 2 ∷ []))) done
+    (gives (setAll 8 set0 (values (pos 1 ∷ pos 0 ∷ pos 2 ∷ []))) done
     ∷ stops (operate 1 set0 (op 1 (minus 1) none)) asleep 0
-    ∷ gives (setAll set0 (values (pos 5 ∷ pos 32768 ∷ pos 5 ∷ []))) (pos 34)
-    ∷ gives (setAll set0 (values (pos 5 ∷ pos 5 ∷ minus 1 ∷ []))) (pos 34)
-    ∷ gives (setAll set0 (values (minus 1 ∷ pos 5 ∷ pos 5 ∷ []))) (pos 34)
-    ∷ gives (setAll set0 (values (pos 5 ∷ pos 5 ∷ []))) (pos 22)
-    ∷ gives (setAll set0 (values (pos 5 ∷ pos 5 ∷ pos 5 ∷ pos 5 ∷ []))) (pos 22)
-    ∷ gives (setAll set0 (values (pos 40000 ∷ pos 5 ∷ []))) (pos 22)
-    ∷ gives (setAll set0 (values (pos 5 ∷ pos 5 ∷ pos 5 ∷ []) ++ 0 ∷ [])) (pos 22)
-    ∷ gives (setAll set0 []) (pos 22)
-    ∷ gives (setAll (pos 4) (values (pos 5 ∷ pos 5 ∷ pos 5 ∷ []))) (pos 22)
-    ∷ reads (readAll set0) (at 1 0 0 ∷ at 0 1 0 ∷ at 2 0 0 ∷ [])
+    ∷ gives (setAll 8 set0 (values (pos 5 ∷ pos 32768 ∷ pos 5 ∷ []))) (pos 34)
+    ∷ gives (setAll 8 set0 (values (pos 5 ∷ pos 5 ∷ minus 1 ∷ []))) (pos 34)
+    ∷ gives (setAll 8 set0 (values (minus 1 ∷ pos 5 ∷ pos 5 ∷ []))) (pos 34)
+    ∷ gives (setAll 8 set0 (values (pos 5 ∷ pos 5 ∷ []))) (pos 22)
+    ∷ gives (setAll 8 set0 (values (pos 5 ∷ pos 5 ∷ pos 5 ∷ pos 5 ∷ []))) (pos 22)
+    ∷ gives (setAll 8 set0 (values (pos 40000 ∷ pos 5 ∷ []))) (pos 22)
+    ∷ gives (setAll 8 set0 (values (pos 5 ∷ pos 5 ∷ pos 5 ∷ []) ++ 0 ∷ [])) (pos 22)
+    ∷ gives (setAll 8 set0 []) (pos 22)
+    ∷ gives (setAll 8 (pos 4) (values (pos 5 ∷ pos 5 ∷ pos 5 ∷ []))) (pos 22)
+    ∷ reads (readAll 8 set0) (at 1 0 0 ∷ at 0 1 0 ∷ at 2 0 0 ∷ [])
     ∷ [])
 
 -- 21: a reading after sleepers shows both counts, each sleeper where it now stops. Values 1, 0, 0; asleep: 1 on (0,0), 2 on (1,-1),
@@ -415,15 +421,15 @@ situation20 =
 abbrev pub situation21 : Situation
 situation21 =
     fresh 3
-    (gives (setAll set0 (values (pos 1 ∷ pos 0 ∷ pos 0 ∷ []))) done
+    (gives (setAll 8 set0 (values (pos 1 ∷ pos 0 ∷ pos 0 ∷ []))) done
     ∷ stops (operate 1 set0 (op 0 (pos 0) none)) asleep 0
     ∷ stops (operate 2 set0 (op 1 (minus 1) none)) asleep 0
     ∷ stops (operate 3 set0 (op 1 (pos 0) none ++ op 0 (pos 0) none)) asleep 1
     ∷ stops (operate 4 set0 (op 0 (minus 1) none ++ op 1 (minus 1) none)) asleep 1
-    ∷ reads (readAll set0) (at 1 0 2 ∷ at 0 2 0 ∷ at 0 0 0 ∷ [])
-    ∷ gives (readAll (pos 7)) (pos 22)
-    ∷ wakes (setAll set0 (values (pos 0 ∷ pos 0 ∷ pos 0 ∷ []))) 5 4 (woken 1 (pos 0) ∷ woken 3 (pos 0) ∷ [])
-    ∷ reads (readAll set0) (at 0 1 0 ∷ at 0 1 0 ∷ at 0 0 0 ∷ [])
+    ∷ reads (readAll 8 set0) (at 1 0 2 ∷ at 0 2 0 ∷ at 0 0 0 ∷ [])
+    ∷ gives (readAll 8 (pos 7)) (pos 22)
+    ∷ wakes (setAll 8 set0 (values (pos 0 ∷ pos 0 ∷ pos 0 ∷ []))) 5 4 (woken 1 (pos 0) ∷ woken 3 (pos 0) ∷ [])
+    ∷ reads (readAll 8 set0) (at 0 1 0 ∷ at 0 1 0 ∷ at 0 0 0 ∷ [])
     ∷ [])
 
 -- 22: values that stay the same are touched too, and the adjustments of all processes are cleared before any look. Process 1 holds
@@ -433,17 +439,17 @@ situation21 =
 abbrev pub situation22 : Situation
 situation22 =
     fresh 3
-    (gives (setAll set0 (values (pos 32767 ∷ pos 0 ∷ pos 0 ∷ []))) done
+    (gives (setAll 8 set0 (values (pos 32767 ∷ pos 0 ∷ pos 0 ∷ []))) done
     ∷ gives (operate 1 set0 (op 0 (minus 32767) undo)) done
     ∷ gives (operate 2 set0 (op 2 (pos 5) undo)) done
     ∷ stops (operate 1 set0 (op 0 (pos 20000) undo ++ op 0 (minus 20000) none ++ op 0 (pos 20000) undo ++ op 1 (minus 1) none)) asleep 3
     ∷ stops (operate 3 set0 (op 2 (minus 6) none)) asleep 0
-    ∷ wakes (setAll set0 (values (pos 0 ∷ pos 0 ∷ pos 5 ∷ []))) 2 2 (ended 1 (pos 34) 2 ∷ [])
+    ∷ wakes (setAll 8 set0 (values (pos 0 ∷ pos 0 ∷ pos 5 ∷ []))) 2 2 (ended 1 (pos 34) 2 ∷ [])
     ∷ wakes (exit 2) 1 0 []
-    ∷ reads (readAll set0) (at 0 0 0 ∷ at 0 0 0 ∷ at 5 1 0 ∷ [])
-    ∷ sees (query set0 0) 0 1
-    ∷ sees (query set0 1) 0 0
-    ∷ answers (query set0 2) (record { code = done; position = Nowhere; value = 5; seen = record { last = 2; increase = 1; zero = 0; increaseMask = 4; zeroMask = 0 }; all = [] })
+    ∷ reads (readAll 8 set0) (at 0 0 0 ∷ at 0 0 0 ∷ at 5 1 0 ∷ [])
+    ∷ sees (query 8 set0 0) 0 1
+    ∷ sees (query 8 set0 1) 0 0
+    ∷ answers (query 8 set0 2) (record { code = done; position = Nowhere; value = 5; seen = record { last = 2; increase = 1; zero = 0; increaseMask = 4; zeroMask = 0 }; all = [] })
     ∷ [])
 
 -- 23: a wait ends at exactly start plus wait, and not a millisecond before. Time 1,000; asleep on (0,-1): process 1 for 250, and 2
@@ -455,9 +461,9 @@ situation23 =
     ∷ stops (within 250 1 set0 (op 0 (minus 1) none)) asleep 0
     ∷ stops (operate 2 set0 (op 0 (minus 1) none)) asleep 0
     ∷ gives (clock 1249) done
-    ∷ reads (readAll set0) (at 0 2 0 ∷ [])
+    ∷ reads (readAll 8 set0) (at 0 2 0 ∷ [])
     ∷ wakes (clock 1250) 0 0 (woken 1 (pos 11) ∷ [])
-    ∷ reads (readAll set0) (at 0 1 0 ∷ [])
+    ∷ reads (readAll 8 set0) (at 0 1 0 ∷ [])
     ∷ wakes (operate 1 set0 (op 0 (pos 1) none)) 1 1 (woken 2 (pos 0) ∷ [])
     ∷ [])
 
@@ -466,13 +472,13 @@ situation23 =
 abbrev pub situation24 : Situation
 situation24 =
     fresh 1
-    (tells (create 1 255 255) 1
+    (tells (create 8 1 (bits 6 6 6)) 1
     ∷ stops (within 500 3 set1 (op 0 (minus 1) none)) asleep 0
     ∷ stops (within 601 2 set1 (op 0 (minus 1) none)) asleep 0
     ∷ stops (within 200 1 set0 (op 0 (minus 1) none)) asleep 0
     ∷ wakes (clock 600) 0 0 (woken 3 (pos 11) ∷ woken 1 (pos 11) ∷ [])
-    ∷ reads (readAll set0) (at 0 0 0 ∷ [])
-    ∷ reads (readAll set1) (at 0 1 0 ∷ [])
+    ∷ reads (readAll 8 set0) (at 0 0 0 ∷ [])
+    ∷ reads (readAll 8 set1) (at 0 1 0 ∷ [])
     ∷ wakes (clock 601) 0 0 (woken 2 (pos 11) ∷ [])
     ∷ [])
 
@@ -487,7 +493,7 @@ situation25 =
     ∷ gives (clock 99) done
     ∷ wakes (operate 2 set0 (op 0 (pos 1) none)) 2 2 (woken 1 (pos 0) ∷ [])
     ∷ wakes (clock 100) 0 0 (woken 3 (pos 11) ∷ [])
-    ∷ sees (query set0 0) 0 1
+    ∷ sees (query 8 set0 0) 0 1
     ∷ [])
 
 -- 26: a wait of 0 that would sleep is 11 at once, at the operation that stopped, and changes nothing. It is asked last: a done array
@@ -500,7 +506,7 @@ situation26 =
     ∷ stops (within 0 1 set0 (op 0 (minus 1) none ++ op 1 (pos 0) none ++ op 0 (minus 1) noWait)) (pos 11) 2
     ∷ stops (within 0 1 set0 (op 0 (pos 32767) none)) (pos 34) 0
     ∷ gives (within 0 1 set0 (op 1 (minus 1) none ++ op 2 (pos 0) none)) (pos 27)
-    ∷ reads (readAll set0) (at 1 0 0 ∷ at 0 0 0 ∷ [])
+    ∷ reads (readAll 8 set0) (at 1 0 0 ∷ at 0 0 0 ∷ [])
     ∷ gives (clock 0) done
     ∷ [])
 
@@ -535,8 +541,159 @@ situation28 =
     ∷ stops (within 1 3 set0 (op 0 (minus 1) none)) asleep 0
     ∷ gives (clock 9223372036854775807) done
     ∷ gives (clock 18446744073709551615) (pos 22)
-    ∷ wakes (setValue set0 0 (pos 2)) 2 2 (woken 2 (pos 0) ∷ woken 3 (pos 0) ∷ [])
+    ∷ wakes (setValue 8 set0 0 (pos 2)) 2 2 (woken 2 (pos 0) ∷ woken 3 (pos 0) ∷ [])
     ∷ [])
+
+-- 29: one class only. Process 1, user 7 of group 9, makes a set that its group alone may read and alter. Itself is denied, since its
+-- own bits deny; process 2, user 8 of group 9, is not; process 3, user 8 of group 8, is. Reading and altering are bits of their own:
+-- of the second set, bits 0 4 2, process 2 may read and process 3 may alter.
+abbrev pub situation29 : Situation
+situation29 =
+    record {
+      start = freshState;
+      steps = gives (actAs 1 7 9) done
+          ∷ gives (actAs 2 8 9) done
+          ∷ gives (actAs 3 8 8) done
+          ∷ tells (create 1 1 (bits 0 6 0)) 0
+          ∷ gives (query 1 set0 0) (pos 13)
+          ∷ gives (setValue 1 set0 0 (pos 1)) (pos 13)
+          ∷ gives (operate 1 set0 (op 0 (pos 1) none)) (pos 13)
+          ∷ gives (setValue 2 set0 0 (pos 1)) done
+          ∷ sees (query 2 set0 0) 1 0
+          ∷ gives (query 3 set0 0) (pos 13)
+          ∷ tells (create 1 1 (bits 0 4 2)) 1
+          ∷ sees (query 2 set1 0) 0 0
+          ∷ gives (setValue 2 set1 0 (pos 1)) (pos 13)
+          ∷ gives (query 3 set1 0) (pos 13)
+          ∷ gives (setValue 3 set1 0 (pos 1)) done
+          ∷ gives (operate 3 set1 (op 0 (minus 1) none ++ op 0 (pos 0) none)) (pos 13)
+          ∷ gives (operate 3 set1 (op 0 (minus 1) none)) done
+          ∷ gives (operate 2 set1 (op 0 (pos 0) none)) done
+          ∷ [];
+    }
+
+-- 30: user 0 passes bits 0, whatever its group; group 0 is nothing special.
+abbrev pub situation30 : Situation
+situation30 =
+    record {
+      start = freshState;
+      steps = gives (actAs 1 7 9) done
+          ∷ gives (actAs 2 0 5) done
+          ∷ gives (actAs 3 5 0) done
+          ∷ tells (create 1 1 (bits 0 0 0)) 0
+          ∷ gives (setValue 2 set0 0 (pos 3)) done
+          ∷ gives (operate 2 set0 (op 0 (minus 1) none)) done
+          ∷ sees (query 2 set0 0) 2 2
+          ∷ reads (readAll 2 set0) (at 2 0 0 ∷ [])
+          ∷ gives (setAll 3 set0 (values (pos 4 ∷ []))) (pos 13)
+          ∷ gives (readAll 3 set0) (pos 13)
+          ∷ gives (remove 2 set0) done
+          ∷ [];
+    }
+
+-- 31: removing needs owner or user 0. By the group, which may read and alter: 1; by one who was the owner's user and is no more: 1; by
+-- another process that is the owner's user now: done. The next set in the slot has its own maker for owner.
+abbrev pub situation31 : Situation
+situation31 =
+    record {
+      start = freshState;
+      steps = gives (actAs 1 7 9) done
+          ∷ gives (actAs 2 8 9) done
+          ∷ tells (create 1 1 (bits 6 6 6)) 0
+          ∷ gives (remove 2 set0) (pos 1)
+          ∷ gives (actAs 1 8 9) done
+          ∷ gives (remove 1 set0) (pos 1)
+          ∷ gives (actAs 2 7 1) done
+          ∷ gives (remove 2 set0) done
+          ∷ gives (remove 2 set0) (pos 22)
+          ∷ tells (create 1 1 (bits 6 6 6)) 4
+          ∷ gives (remove 2 (pos 4)) (pos 1)
+          ∷ gives (remove 1 (pos 4)) done
+          ∷ [];
+    }
+
+-- 32: permission is judged when a call begins and not again at waking. Process 1 fell asleep at a set of user 7 that user 7 alone
+-- may alter, and is user 8 now: woken all the same. (No event changes the numbers of a process that sleeps: 16.)
+abbrev changed : Callers
+changed = record { users = 8 ∷ replicate 7 0; groups = replicate processes 0 }
+
+abbrev pub situation32 : Situation
+situation32 =
+    record {
+      start = record {
+        sets = record { generation = 0; count = 1; owner = 7; group = 0; mode = bits 6 0 0 } ∷ replicate 3 (freeSet 0);
+        callers = changed;
+        table = freshTable;
+        queue = record { process = 1; slot = 0; array = op 0 (minus 1) none; start = 0; wait = Endless } ∷ [];
+        time = 0;
+      };
+      steps = gives (actAs 1 7 0) (pos 16)
+          ∷ wakes (setValue 2 set0 0 (pos 1)) 1 1 (woken 1 (pos 0) ∷ [])
+          ∷ sees (query 2 set0 0) 0 1
+          ∷ gives (operate 1 set0 (op 0 (pos 1) none)) (pos 13)
+          ∷ gives (actAs 1 7 0) done
+          ∷ gives (operate 1 set0 (op 0 (pos 1) none)) done
+          ∷ [];
+    }
+
+-- 33: a process asleep asks nothing: 16, before all else but 3. Exit leaves both numbers.
+abbrev pub situation33 : Situation
+situation33 =
+    fresh 1
+    (gives (actAs 1 7 9) done
+    ∷ stops (operate 1 set0 (op 0 (minus 1) none)) asleep 0
+    ∷ gives (query 1 set0 0) (pos 16)
+    ∷ gives (query 1 set1 9) (pos 16)
+    ∷ gives (readAll 1 set0) (pos 16)
+    ∷ gives (create 1 0 512) (pos 16)
+    ∷ gives (setValue 1 set0 0 (pos 1)) (pos 16)
+    ∷ gives (setAll 1 set0 (values (pos 1 ∷ []))) (pos 16)
+    ∷ gives (remove 1 set0) (pos 16)
+    ∷ gives (actAs 1 8 8) (pos 16)
+    ∷ gives (query 9 set0 0) (pos 3)
+    ∷ gives (create 0 0 512) (pos 3)
+    ∷ gives (exit 1) done
+    ∷ tells (create 1 1 (bits 0 7 7)) 1
+    ∷ gives (query 1 set1 0) (pos 13)
+    ∷ gives (remove 1 set1) done
+    ∷ [])
+
+-- 34: bits 512 are 22, tested with the count; bits 511 are good. No slot is free: 28, behind both.
+abbrev pub situation34 : Situation
+situation34 =
+    fresh 1
+    (gives (create 1 1 512) (pos 22)
+    ∷ gives (create 1 0 511) (pos 22)
+    ∷ gives (create 1 9 65535) (pos 22)
+    ∷ tells (create 1 1 511) 1
+    ∷ tells (create 1 1 0) 2
+    ∷ tells (create 1 1 1) 3
+    ∷ gives (create 1 1 512) (pos 22)
+    ∷ gives (create 1 1 511) (pos 28)
+    ∷ [])
+
+-- 35: permission comes behind the test for a live set and before all else, but in an operate, where a number that is too high comes
+-- before it. Process 2, user 8, at a set of user 0 with bits 0.
+abbrev pub situation35 : Situation
+situation35 =
+    record {
+      start = freshState;
+      steps = gives (actAs 2 8 8) done
+          ∷ tells (create 1 1 (bits 6 0 0)) 0
+          ∷ gives (query 2 set1 9) (pos 22)
+          ∷ gives (query 2 set0 9) (pos 13)
+          ∷ gives (query 1 set0 9) (pos 22)
+          ∷ gives (setValue 2 set0 9 (pos 40000)) (pos 13)
+          ∷ gives (setValue 1 set0 9 (pos 40000)) (pos 22)
+          ∷ gives (setAll 2 set0 (values (pos 40000 ∷ []))) (pos 13)
+          ∷ gives (setAll 2 set0 []) (pos 13)
+          ∷ gives (setAll 1 set0 (values (pos 40000 ∷ []))) (pos 34)
+          ∷ gives (remove 2 set1) (pos 22)
+          ∷ gives (remove 2 set0) (pos 1)
+          ∷ gives (operate 2 set0 (op 1 (pos 1) none)) (pos 27)
+          ∷ gives (operate 2 set0 (op 0 (minus 1) noWait)) (pos 13)
+          ∷ [];
+    }
 
 abbrev pub table : List Situation
 table =
@@ -569,4 +726,11 @@ table =
     ∷ situation26
     ∷ situation27
     ∷ situation28
+    ∷ situation29
+    ∷ situation30
+    ∷ situation31
+    ∷ situation32
+    ∷ situation33
+    ∷ situation34
+    ∷ situation35
     ∷ []

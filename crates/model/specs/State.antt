@@ -1,10 +1,11 @@
 -- What the host holds ("What the host holds").
 use Prim.Native.Nat.{ℕ, zero, suc, _+_, _*_, _-_}
 use mathlib.Core.List.{List, []}
-use lib.ListN.{replicate}
+use lib.ListN.{getD, replicate}
 use lib.Seq.{paste}
 use lib.IntN.{ℤ, pos}
 use Rattle.model.specs.declared.Set.{Set}
+use Rattle.model.specs.declared.Caller.{Caller}
 use Rattle.model.specs.declared.Wait.{Wait}
 use Rattle.model.specs.declared.Wait.the-variants.{Endless}
 use Rattle.model.specs.Limits.{slots, semaphores, processes, allSemaphores, allAdjustments}
@@ -34,9 +35,19 @@ pub record Sleeper : Type 0 where
   pub start : ℕ
   pub wait : Wait
 
+-- "Give each process a user and a group number": those of all processes, process 1's first.
+pub record Callers : Type 0 where
+  pub users : List ℕ
+  pub groups : List ℕ
+
+-- the two numbers of a process
+abbrev pub callerOf : Callers → ℕ → Caller
+callerOf c process = record { user = getD (c .users) (process - 1) 0; group = getD (c .groups) (process - 1) 0 }
+
 -- "Sleepers stand in the order in which they went to sleep": the oldest is the first of the queue. The time is the one last told.
 pub record State : Type 0 where
   pub sets : List Set
+  pub callers : Callers
   pub table : Table
   pub queue : List Sleeper
   pub time : ℕ
@@ -65,14 +76,18 @@ cleared t slot =
 
 -- a free slot of a generation: every other number is 0
 abbrev pub freeSet : ℕ → Set
-freeSet generation = record { generation = generation; count = 0; read = 0; alter = 0 }
+freeSet generation = record { generation = generation; count = 0; owner = 0; group = 0; mode = 0 }
 
--- "a fresh host has all 256 adjustments at zero, four free slots with every number 0, and no sleepers"; "Time starts at 0."
+-- "a fresh host has all 256 adjustments at zero, four free slots with every number 0, and no sleepers"; users and groups are "both 0
+-- at the start"; "Time starts at 0."
 abbrev pub freshTable : Table
 freshTable = record { values = replicate allSemaphores 0; lasts = replicate allSemaphores 0; adjustments = replicate allAdjustments (pos 0) }
 
+abbrev pub freshCallers : Callers
+freshCallers = record { users = replicate processes 0; groups = replicate processes 0 }
+
 abbrev pub freshState : State
-freshState = record { sets = replicate slots (freeSet 0); table = freshTable; queue = []; time = 0 }
+freshState = record { sets = replicate slots (freeSet 0); callers = freshCallers; table = freshTable; queue = []; time = 0 }
 
 -- what stands past the end of the sets, and of the queue
 abbrev pub noSet : Set

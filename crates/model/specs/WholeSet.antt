@@ -8,7 +8,7 @@ use lib.IntN.{ℤ, pos}
 use Rattle.model.specs.declared.QueriedSet.{QueriedSet}
 use Rattle.model.specs.Limits.{semaphores}
 use Rattle.model.specs.State.{State, row, noSet}
-use Rattle.model.specs.Checks.{slotOf, checkSet}
+use Rattle.model.specs.Checks.{slotOf, checkReadAll}
 use Rattle.model.specs.Counts.{judgedAt}
 use Rattle.model.specs.Events.{Read, Answer, seenAt}
 
@@ -58,8 +58,8 @@ abbrev pub setChecked : ℕ → QueriedSet → QueriedSet
 setChecked zero shown = shown
 setChecked (suc code) shown = setRefused (suc code)
 
-unfoldable pub querySet : State → ℤ → QueriedSet
-querySet s i = setChecked (checkSet s i) (shownAt s (slotOf i))
+unfoldable pub querySet : State → ℕ → ℤ → QueriedSet
+querySet s p i = setChecked (checkReadAll s p i) (shownAt s (slotOf i))
 
 -- ---- what is claimed of it
 

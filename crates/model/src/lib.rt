@@ -15,6 +15,14 @@ pub const OPERATIONS: usize = 32;
 
 pub const VALUE_MAX: u16 = 32767;
 
+// The greatest mode: nine permission bits.
+pub const MODE_MAX: u16 = 511;
+
+// What is asked of a set, as a bit of the three that count for the caller.
+pub const READ: u16 = 4;
+
+pub const ALTER: u16 = 2;
+
 // The latest time that can be told, in milliseconds.
 pub const TIME_MAX: u64 = 9223372036854775807;
 
@@ -39,12 +47,20 @@ pub const ONE_WAKING: usize = 4;
 
 pub const WAKING_BYTES: usize = ONE_WAKING * PROCESSES;
 
-// A slot. `count` is the number of semaphores, 0 in a free slot; the masks have a bit for each process.
+// A slot. `count` is the number of semaphores, 0 in a free slot; owner and group are its creator's, and the mode has nine
+// permission bits.
 pub struct Set {
     pub generation: u16,
     pub count: u8,
-    pub read: u8,
-    pub alter: u8,
+    pub owner: u32,
+    pub group: u32,
+    pub mode: u16,
+}
+
+// Who asks: the user and the group number of a process.
+pub struct Caller {
+    pub user: u32,
+    pub group: u32,
 }
 
 // One operation of an array, decoded.
@@ -119,12 +135,13 @@ pub const ONE_READ: usize = 3;
 
 pub const ALL_READ: usize = ONE_READ * SEMAPHORES;
 
-// An event that is handed in. The bytes of an operate's operations, or of a setting's values, stand beside it.
+// An event that is handed in, with the process that calls. The bytes of an operate's operations, or of a setting's values, stand
+// beside it.
 pub enum Event {
     Create {
+        process: u8,
         count: u8,
-        read: u8,
-        alter: u8,
+        mode: u16,
     },
     Operate {
         process: u8,
@@ -132,11 +149,13 @@ pub enum Event {
         wait: Wait,
     },
     SetValue {
+        process: u8,
         identifier: i32,
         number: u16,
         value: i32,
     },
     Remove {
+        process: u8,
         identifier: i32,
     },
     Signal {
@@ -146,17 +165,25 @@ pub enum Event {
         process: u8,
     },
     Query {
+        process: u8,
         identifier: i32,
         number: u16,
     },
     SetAll {
+        process: u8,
         identifier: i32,
     },
     ReadAll {
+        process: u8,
         identifier: i32,
     },
     Clock {
         time: u64,
+    },
+    ActAs {
+        process: u8,
+        user: u32,
+        group: u32,
     },
 }
 

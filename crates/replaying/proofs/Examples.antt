@@ -1,4 +1,4 @@
--- "Whole example, 44 bytes", from its bytes to its text, which now names the operation that stopped, computed in both engines.
+-- "Whole example, 45 bytes", from its bytes to its text, which now names the operation that stopped, computed in both engines.
 use Prim.Native.Nat.{ℕ}
 use mathlib.Core.Path.{_≡_, refl}
 use mathlib.Core.List.{List, [], _∷_}
@@ -9,7 +9,8 @@ use Rattle.model.specs.Judge.{nextValue, nextAdjustment, step, goOn, judgeFrom,
 use Rattle.model.specs.Look.{valuesOf, adjustmentsOf, look, lastsAfter, applied, after}
 use Rattle.model.specs.Marks.{unmark, marked, namedBy, differing, mine, maskOf}
 use Rattle.model.specs.Waking.{without, finish, plainRound, quickRound, plain, quick, waker}
-use Rattle.model.specs.Checks.{identifierOf, slotOf, namesSet, noProcess, asleep, numberTooHigh, permitted, freeFrom, checkCreate, checkOperate}
+use Rattle.model.specs.Checks.{identifierOf, slotOf, namesSet, noProcess, asleep, numberTooHigh, permitted, freeFrom, checkCaller, checkCreate, checkOperate}
+use Rattle.model.specs.Permission.{classBits, permits}
 use Rattle.model.specs.State.{clearRows, cleared}
 use Rattle.model.specs.Clock.{atOnce}
 use Rattle.model.specs.Events.{doCreate, wouldSleep, operated, doOperate, event}
@@ -32,6 +33,6 @@ text =
     ∷ 50 ∷ 32 ∷ 48 ∷ 32 ∷ 48 ∷ 32 ∷ 49 ∷ 32 ∷ 49 ∷ 61 ∷ 48 ∷ 10 ∷ []
 
 whole-example : (engine : Engine) → replayed engine example ≡ text
-unfolding firstLine eventsIn textOfFile textOf lineOf eventText positionText wakingsText wakingText wordLine signedOf digitsOf digitsIn fileOf eventsOf bodyCode eventIn handedIn sizeIn fixedOf eachOf chains entriesFrom countIn signed32 wordAt run event doCreate wouldSleep atOnce operated doOperate identifierOf slotOf namesSet noProcess asleep numberTooHigh permitted freeFrom checkCreate checkOperate clearRows cleared waker plain quick plainRound quickRound finish without look lastsAfter applied after valuesOf adjustmentsOf judgeFrom goOn step nextValue nextAdjustment codeOf decidedAt finishes operationsFrom signed16 isZero unmark marked namedBy differing mine maskOf
+unfolding firstLine eventsIn textOfFile textOf lineOf eventText positionText wakingsText wakingText wordLine signedOf digitsOf digitsIn fileOf eventsOf bodyCode eventIn handedIn sizeIn fixedOf eachOf chains entriesFrom countIn signed32 wordAt run event doCreate wouldSleep atOnce operated doOperate identifierOf slotOf namesSet noProcess asleep numberTooHigh classBits permits permitted freeFrom checkCaller checkCreate checkOperate clearRows cleared waker plain quick plainRound quickRound finish without look lastsAfter applied after valuesOf adjustmentsOf judgeFrom goOn step nextValue nextAdjustment codeOf decidedAt finishes operationsFrom signed16 isZero unmark marked namedBy differing mine maskOf
 whole-example Plain = refl
 whole-example Quick = refl

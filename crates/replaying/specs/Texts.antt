@@ -22,7 +22,7 @@ pub data LinesAlike : List ℕ → List ℕ → Type 0 where
   sameQuery : (position : ℕ) (code : ℤ) (value last forIncrease forZero : ℕ)
       → LinesAlike (queryText position code value last forIncrease forZero) (queryText position code value last forIncrease forZero)
   sameReading : (position : ℕ) (code : ℤ) (numbers : List ℕ) → LinesAlike (readText position code numbers) (readText position code numbers)
-  otherLooks : (position : ℕ) (code : ℤ) (decided : Position) (value quick plain : ℕ) (wakings : List Waking) → quick ≤ plain → plain ≤ 36
+  otherLooks : (position : ℕ) (code : ℤ) (decided : Position) (value quick plain : ℕ) (wakings : List Waking) → quick ≤ plain → plain ≤ 28
       → LinesAlike (eventText position code decided value quick wakings) (eventText position code decided value plain wakings)
 
 -- two texts, line by line

@@ -7,11 +7,11 @@ use Prim.Native.Nat.{ℕ, zero, suc, _+_, _*_, _-_}
 use mathlib.Core.Bool.{cond}
 use mathlib.Core.List.{List, [], _∷_}
 use lib.Dec.{eqb}
-use lib.IntN.{pos}
+use lib.IntN.{ℤ, pos}
 use lib.ListN.{take, drop}
 use Rattle.model.specs.declared.Wait.the-variants.{Endless, Milliseconds}
 use Rattle.model.specs.Limits.{operationBytes, valueBytes}
-use Rattle.model.specs.Events.{Event, create, operate, setValue, remove, signal, exit, query, setAll, readAll, clock}
+use Rattle.model.specs.Events.{Event, create, operate, setValue, remove, signal, exit, query, setAll, readAll, clock, actAs}
 use Rattle.runfile.specs.Fields.{byteAt, halfAt, wordAt, longAt, signedAt}
 
 -- ---- the kinds, in the order of the table in "The run file": the number of each, and the bytes of its body. An operate has
@@ -21,7 +21,7 @@ abbrev pub createKind : ℕ
 createKind = 1
 
 abbrev pub createBytes : ℕ
-createBytes = 4
+createBytes = 5
 
 abbrev pub operateKind : ℕ
 operateKind = 2
@@ -33,13 +33,13 @@ abbrev pub setValueKind : ℕ
 setValueKind = 3
 
 abbrev pub setValueBytes : ℕ
-setValueBytes = 11
+setValueBytes = 12
 
 abbrev pub removeKind : ℕ
 removeKind = 4
 
 abbrev pub removeBytes : ℕ
-removeBytes = 5
+removeBytes = 6
 
 abbrev pub signalKind : ℕ
 signalKind = 5
@@ -57,7 +57,7 @@ abbrev pub queryKind : ℕ
 queryKind = 7
 
 abbrev pub queryBytes : ℕ
-queryBytes = 7
+queryBytes = 8
 
 abbrev pub operateWithinKind : ℕ
 operateWithinKind = 8
@@ -75,13 +75,19 @@ abbrev pub setAllKind : ℕ
 setAllKind = 10
 
 abbrev pub setAllBytes : ℕ
-setAllBytes = 6
+setAllBytes = 7
 
 abbrev pub readAllKind : ℕ
 readAllKind = 11
 
 abbrev pub readAllBytes : ℕ
-readAllBytes = 5
+readAllBytes = 6
+
+abbrev pub actAsKind : ℕ
+actAsKind = 12
+
+abbrev pub actAsBytes : ℕ
+actAsBytes = 10
 
 -- the bytes of a body, before its operations or values; 0 for an unknown kind
 unfoldable pub fixedOf : ℕ → ℕ
@@ -97,7 +103,8 @@ fixedOf kind =
     (cond (eqb kind clockKind) clockBytes
     (cond (eqb kind setAllKind) setAllBytes
     (cond (eqb kind readAllKind) readAllBytes
-    0))))))))))
+    (cond (eqb kind actAsKind) actAsBytes
+    0)))))))))))
 
 -- "number of operations 1, six bytes each", "number of values 1, each value 4 signed": the bytes of each; no other kind has any
 unfoldable pub eachOf : ℕ → ℕ
@@ -120,6 +127,14 @@ sizeOf kind number = fixedOf kind + eachOf kind * number
 abbrev pub kindIn : List ℕ → ℕ
 kindIn body = byteAt body 0
 
+-- "a process, one byte behind the kind": of every kind but a clock
+abbrev pub processIn : List ℕ → ℕ
+processIn body = byteAt body 1
+
+-- the set that is named, behind the process
+abbrev pub identifierIn : List ℕ → ℤ
+identifierIn body = signedAt body 2
+
 abbrev pub numberIn : List ℕ → ℕ
 numberIn body = byteAt body (numberAt (kindIn body))
 
@@ -131,25 +146,26 @@ sizeIn body = sizeOf (kindIn body) (numberIn body)
 unfoldable pub handedIn : List ℕ → List ℕ
 handedIn body = take (eachOf (kindIn body) * numberIn body) (drop (fixedOf (kindIn body)) body)
 
--- "1 create: count, read mask, alter mask (1 byte each). 2 operate: process 1, identifier 4 signed, number of operations 1, six
--- bytes each. 3 set value: identifier 4, number 2, value 4 signed. 4 remove: identifier 4. 5 signal, 6 exit: process 1. 7 query:
--- identifier 4, number 2." "The file gets kinds 8 (as kind 2, the wait in 4 bytes before the number) and 9 (time, 8 bytes
--- unsigned)." "Kind 10 is identifier 4, number of values 1, each value 4 signed; kind 11 is identifier 4." No good file has another
--- kind; what stands for its event is never run.
+-- The bytes behind the kind and the process. 1 create: count 1, bits 2. 2 operate: identifier 4 signed, number of operations 1,
+-- six bytes each. 3 set value: identifier 4, number 2, value 4 signed. 4 remove: identifier 4. 5 signal, 6 exit: none. 7 query:
+-- identifier 4, number 2. 8 operate: as kind 2, the wait in 4 bytes before the number. 9 clock, with no process: time 8. 10 set
+-- all: identifier 4, number of values 1, each value 4 signed. 11 read all: identifier 4. 12 act as: user 4, group 4. "Other fields
+-- are unsigned." No good file has another kind; what stands for its event is never run.
 unfoldable pub eventIn : List ℕ → Event
 eventIn body =
-    cond (eqb (kindIn body) createKind) (create (byteAt body 1) (byteAt body 2) (byteAt body 3))
-    (cond (eqb (kindIn body) operateKind) (operate (byteAt body 1) (signedAt body 2) Endless (handedIn body))
-    (cond (eqb (kindIn body) setValueKind) (setValue (signedAt body 1) (halfAt body 5) (signedAt body 7))
-    (cond (eqb (kindIn body) removeKind) (remove (signedAt body 1))
-    (cond (eqb (kindIn body) signalKind) (signal (byteAt body 1))
-    (cond (eqb (kindIn body) exitKind) (exit (byteAt body 1))
-    (cond (eqb (kindIn body) queryKind) (query (signedAt body 1) (halfAt body 5))
-    (cond (eqb (kindIn body) operateWithinKind) (operate (byteAt body 1) (signedAt body 2) (Milliseconds (wordAt body 6)) (handedIn body))
+    cond (eqb (kindIn body) createKind) (create (processIn body) (byteAt body 2) (halfAt body 3))
+    (cond (eqb (kindIn body) operateKind) (operate (processIn body) (identifierIn body) Endless (handedIn body))
+    (cond (eqb (kindIn body) setValueKind) (setValue (processIn body) (identifierIn body) (halfAt body 6) (signedAt body 8))
+    (cond (eqb (kindIn body) removeKind) (remove (processIn body) (identifierIn body))
+    (cond (eqb (kindIn body) signalKind) (signal (processIn body))
+    (cond (eqb (kindIn body) exitKind) (exit (processIn body))
+    (cond (eqb (kindIn body) queryKind) (query (processIn body) (identifierIn body) (halfAt body 6))
+    (cond (eqb (kindIn body) operateWithinKind) (operate (processIn body) (identifierIn body) (Milliseconds (wordAt body 6)) (handedIn body))
     (cond (eqb (kindIn body) clockKind) (clock (longAt body 1))
-    (cond (eqb (kindIn body) setAllKind) (setAll (signedAt body 1) (handedIn body))
-    (cond (eqb (kindIn body) readAllKind) (readAll (signedAt body 1))
-    (query (pos 0) 0)))))))))))
+    (cond (eqb (kindIn body) setAllKind) (setAll (processIn body) (identifierIn body) (handedIn body))
+    (cond (eqb (kindIn body) readAllKind) (readAll (processIn body) (identifierIn body))
+    (cond (eqb (kindIn body) actAsKind) (actAs (processIn body) (wordAt body 2) (wordAt body 6))
+    (query 0 (pos 0) 0))))))))))))
 
 -- ---- in a file
 

@@ -1,6 +1,6 @@
 // The bodies: the kinds with their sizes, and the size, the code and the event of a body.
 //
-// A new kind has two constants, and an arm in `fixed` and in `event_at`; if a number in it tells how much it has, it is in
+// A new kind has two constants, and an arm in `fixed` and in `event_in`; if a number in it tells how much it has, it is in
 // `size_at` and `handed_at` too. What it means is in specs/Body.antt, and it is an event of the crate model.
 ghost use mathlib.Core.Path.{_≡_};
 ghost use mathlib.Core.Bool.{cond};
@@ -10,8 +10,8 @@ ghost use lib.ListN.{take, drop};
 ghost use lib.IntN.{pos};
 ghost use Rattle.model.specs.Limits.{operationBytes};
 ghost use Rattle.model.specs.Events.{eventOf};
-ghost use Rattle.runfile.specs.Fields.{byteAt, signedAt};
-ghost use Rattle.runfile.specs.Body.{operateKind, fixedOf, sizeAt, bodyCode, eventAt, handedAt};
+ghost use Rattle.runfile.specs.Fields.{byteAt};
+ghost use Rattle.runfile.specs.Body.{operateKind, fixedOf, handedIn, eventIn, sizeAt, bodyCode, eventAt, handedAt};
 use crate::fields::byte_at;
 use crate::fields::first;
 use crate::fields::half_at;
@@ -26,7 +26,7 @@ use model::Wait;
 // Each kind, and the bytes of its body. An operate has more bytes, for its operations, and a setting for its values.
 const CREATE: u8 = 1;
 
-const CREATE_BYTES: u8 = 4;
+const CREATE_BYTES: u8 = 5;
 
 const OPERATE: u8 = 2;
 
@@ -34,11 +34,11 @@ const OPERATE_BYTES: u8 = 7;
 
 const SET_VALUE: u8 = 3;
 
-const SET_VALUE_BYTES: u8 = 11;
+const SET_VALUE_BYTES: u8 = 12;
 
 const REMOVE: u8 = 4;
 
-const REMOVE_BYTES: u8 = 5;
+const REMOVE_BYTES: u8 = 6;
 
 const SIGNAL: u8 = 5;
 
@@ -50,7 +50,7 @@ const EXIT_BYTES: u8 = 2;
 
 const QUERY: u8 = 7;
 
-const QUERY_BYTES: u8 = 7;
+const QUERY_BYTES: u8 = 8;
 
 const OPERATE_WITHIN: u8 = 8;
 
@@ -62,11 +62,15 @@ const CLOCK_BYTES: u8 = 9;
 
 const SET_ALL: u8 = 10;
 
-const SET_ALL_BYTES: u8 = 6;
+const SET_ALL_BYTES: u8 = 7;
 
 const READ_ALL: u8 = 11;
 
-const READ_ALL_BYTES: u8 = 5;
+const READ_ALL_BYTES: u8 = 6;
+
+const ACT_AS: u8 = 12;
+
+const ACT_AS_BYTES: u8 = 10;
 
 // The bytes of a body before its operations or values, 0 if there is no such kind.
 fn fixed(kind: u8) -> u8
@@ -84,6 +88,7 @@ fn fixed(kind: u8) -> u8
         CLOCK => CLOCK_BYTES,
         SET_ALL => SET_ALL_BYTES,
         READ_ALL => READ_ALL_BYTES,
+        ACT_AS => ACT_AS_BYTES,
         _ => 0,
     }
 }
@@ -141,8 +146,8 @@ pub fn size_at(file: &[u8], at: usize) -> usize
     }
     let body = &file[at..];
     let kind = body[0];
-    // The two that have their number elsewhere are told apart first: a choice more in the sum, and in where the number stands,
-    // would cost every body.
+    // The two rarer kinds that have a number are told apart first: a choice more in the sum, or in where the number stands, would
+    // cost every body.
     match kind {
         OPERATE_WITHIN => counted(body, OPERATE_WITHIN_BYTES, OPERATION_BYTES),
         SET_ALL => counted(body, SET_ALL_BYTES, VALUE_BYTES),
@@ -166,70 +171,84 @@ pub fn body_code(file: &[u8], at: usize, size: usize) -> u16
 
 // What stands for the event of an unknown kind, which no good file has.
 fn no_event() -> Event
-    ensures { λ r. ⌜ r ≡ Event.Query (pos 0) 0 ⌝ }
+    ensures { λ r. ⌜ r ≡ Event.Query 0 (pos 0) 0 ⌝ }
 {
     Event::Query {
+        process: 0,
         identifier: 0,
         number: 0,
     }
 }
 
-// The event of an operate's body, with its wait.
-fn operate_in(body: &[u8], wait: Wait) -> Event
-    ensures { λ r. ⌜ r ≡ Event.Operate (byteAt (now (body .entry)) 1) (signedAt (now (body .entry)) 2) wait ⌝ }
+// The event of the body that some bytes begin with. The operations of an operate, or the values of a setting, stand beside it.
+fn event_in(body: &[u8]) -> Event
+    ensures { λ r. ⌜ eventOf r (handedIn (now (body .entry))) ≡ eventIn (now (body .entry)) ⌝ }
 {
-    Event::Operate {
-        process: byte_at(body, 1),
-        identifier: signed_at(body, 2),
-        wait: wait,
+    let kind = byte_at(body, 0);
+    // These two only some kinds have.
+    let process = byte_at(body, 1);
+    let identifier = signed_at(body, 2);
+    match kind {
+        CREATE => Event::Create {
+            process,
+            count: byte_at(body, 2),
+            mode: half_at(body, 3),
+        },
+        OPERATE => Event::Operate {
+            process,
+            identifier,
+            wait: Wait::Endless,
+        },
+        SET_VALUE => Event::SetValue {
+            process,
+            identifier,
+            number: half_at(body, 6),
+            value: signed_at(body, 8),
+        },
+        REMOVE => Event::Remove {
+            process,
+            identifier,
+        },
+        SIGNAL => Event::Signal { process },
+        EXIT => Event::Exit { process },
+        QUERY => Event::Query {
+            process,
+            identifier,
+            number: half_at(body, 6),
+        },
+        OPERATE_WITHIN => Event::Operate {
+            process,
+            identifier,
+            wait: Wait::Milliseconds(word_at(body, 6)),
+        },
+        CLOCK => Event::Clock {
+            time: long_at(body, 1),
+        },
+        SET_ALL => Event::SetAll {
+            process,
+            identifier,
+        },
+        READ_ALL => Event::ReadAll {
+            process,
+            identifier,
+        },
+        ACT_AS => Event::ActAs {
+            process,
+            user: word_at(body, 2),
+            group: word_at(body, 6),
+        },
+        _ => no_event(),
     }
 }
 
-// The event of the body at a position. The operations of an operate, or the values of a setting, stand beside it.
+// The event of the body at a position.
 pub fn event_at(file: &[u8], at: usize) -> Event
     ensures { λ r. ⌜ eventOf r (handedAt (now (file .entry)) at) ≡ eventAt (now (file .entry)) at ⌝ }
 {
     if file.len() <= at {
         return no_event();
     }
-    let body = &file[at..];
-    match body[0] {
-        CREATE => Event::Create {
-            count: byte_at(body, 1),
-            read: byte_at(body, 2),
-            alter: byte_at(body, 3),
-        },
-        OPERATE => operate_in(body, Wait::Endless),
-        SET_VALUE => Event::SetValue {
-            identifier: signed_at(body, 1),
-            number: half_at(body, 5),
-            value: signed_at(body, 7),
-        },
-        REMOVE => Event::Remove {
-            identifier: signed_at(body, 1),
-        },
-        SIGNAL => Event::Signal {
-            process: byte_at(body, 1),
-        },
-        EXIT => Event::Exit {
-            process: byte_at(body, 1),
-        },
-        QUERY => Event::Query {
-            identifier: signed_at(body, 1),
-            number: half_at(body, 5),
-        },
-        OPERATE_WITHIN => operate_in(body, Wait::Milliseconds(word_at(body, 6))),
-        CLOCK => Event::Clock {
-            time: long_at(body, 1),
-        },
-        SET_ALL => Event::SetAll {
-            identifier: signed_at(body, 1),
-        },
-        READ_ALL => Event::ReadAll {
-            identifier: signed_at(body, 1),
-        },
-        _ => no_event(),
-    }
+    event_in(&file[at..])
 }
 
 // The bytes that stand beside the event of the body at a position, as far as the file goes: the operations of an operate, the

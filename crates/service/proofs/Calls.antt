@@ -17,7 +17,7 @@ use Rattle.host.specs.Holding.{Host, hostOf, stateIn, Held}
 use Rattle.host.proofs.HeldLaws.{state-back, held-fresh, held-next}
 use Rattle.wakings.specs.Wakings.{listOf}
 use Rattle.service.specs.After.{tellingAt, showing, replyAs, readAs, Replied, tells, repliedOf}
-use Rattle.service.specs.Calls.{Call, creates, operates, setsValue, removes, signals, exits, queries, setsAll, readsAll, clocks, runs, Called, noCall, andCall, lastHost, repliesOf, CallsAlike, CallsAgree}
+use Rattle.service.specs.Calls.{Call, creates, operates, setsValue, removes, signals, exits, queries, setsAll, readsAll, clocks, actsAs, runs, Called, noCall, andCall, lastHost, repliesOf, CallsAlike, CallsAgree}
 use Rattle.service.proofs.ReplyLaws.{seen, read}
 
 -- ---- one call
@@ -25,16 +25,17 @@ use Rattle.service.proofs.ReplyLaws.{seen, read}
 -- any function leaves and returns what the event gives
 call-is : (engine : Engine) (x : Host) → Held x → (e : Event) (y : Replied) → Call engine x e y → y ≡ repliedOf e (event (waker engine) (stateIn x) e)
 unfolding event
-call-is engine x k e y (creates count read alter a h) = ap tells h
+call-is engine x k e y (creates p count mode a h) = ap tells h
 call-is engine x k e y (operates p i wait bytes a h) = ap tells h
-call-is engine x k e y (setsValue i n v a h) = ap tells h
-call-is engine x k e y (removes i a h) = ap tells h
+call-is engine x k e y (setsValue p i n v a h) = ap tells h
+call-is engine x k e y (removes p i a h) = ap tells h
 call-is engine x k e y (signals p a h) = ap tells h
 call-is engine x k e y (exits p a h) = ap tells h
-call-is engine x k e y (queries i n q h) = seen x k i n refl h
-call-is engine x k e y (setsAll i bytes a h) = ap tells h
-call-is engine x k e y (readsAll i lent long q left h) = read x k i lent long h refl
+call-is engine x k e y (queries p i n q h) = seen x k p i n refl h
+call-is engine x k e y (setsAll p i bytes a h) = ap tells h
+call-is engine x k e y (readsAll p i lent long q left h) = read x k p i lent long h refl
 call-is engine x k e y (clocks now a h) = ap tells h
+call-is engine x k e y (actsAs p user group a h) = ap tells h
 call-is engine x k e y (runs d bytes a h) = h
 
 -- .. and a host that holds the state after it

@@ -17,9 +17,9 @@ use Rattle.model.proofs.Lists.{all-map}
 use Rattle.model.proofs.Engines.{reached}
 use Rattle.model.proofs.LookLaws.{count-fits}
 use Rattle.host.specs.Parts.{Row}
-use Rattle.host.specs.Holding.{Host, withTable, hostOf, hostWith, setsIn, timeIn, queueIn, stateIn, Held}
+use Rattle.host.specs.Holding.{Host, withTable, hostOf, hostWith, setsIn, callersIn, timeIn, queueIn, stateIn, Held}
 use Rattle.host.specs.Queue.{Queued, QueueHeld}
-use Rattle.host.proofs.PartLaws.{setParts, clockParts, queueParts, by-groups}
+use Rattle.host.proofs.PartLaws.{setParts, callerParts, clockParts, queueParts, by-groups}
 use Rattle.host.proofs.QueueRows.{queued}
 use Rattle.wakings.specs.Wakings.{Place, listOf}
 use Rattle.service_table.specs.Written.{tabled}
@@ -31,9 +31,9 @@ use Rattle.service.specs.After.{telling, afterOf}
 
 -- ---- a host that holds a state
 
--- its state with another table and queue: sets and time stay
+-- its state with another table and queue: sets, callers and time stay
 abbrev pub stateWith : Host → Table → List Sleeper → State
-stateWith x t q = record { sets = setsIn (x .row); table = t; queue = q; time = timeIn (x .row) }
+stateWith x t q = record { sets = setsIn (x .row); callers = callersIn (x .row); table = t; queue = q; time = timeIn (x .row) }
 
 module _ (x : Host) (k : Held x) where
   abbrev queue : List Sleeper
@@ -48,7 +48,7 @@ module _ (x : Host) (k : Held x) where
   pub held-row : QueueHeld (x .row)
   held-row =
       record {
-        holds = by-groups _ _ refl refl refl (ap (λ (y : Host). queueParts (y .row)) (k .holds));
+        holds = by-groups _ _ refl refl refl refl (ap (λ (y : Host). queueParts (y .row)) (k .holds));
         fits = held-queued;
       }
 
@@ -59,11 +59,11 @@ module _ (x : Host) (k : Held x) where
   pub held-counts : (slot : ℕ) → countAt (setsIn (x .row)) slot ≤ semaphores
   held-counts = count-fits (held-invariant .counts)
 
-  -- another table and queue, with the sets and the time as they are
+  -- another table and queue, with the sets, the callers and the time as they are
   pub host-of : (t : Table) (q : List Sleeper) → hostWith x t q ≡ hostOf (stateWith x t q)
   host-of t q =
       ap (λ (r : Row). record { row = r; adjustments = t .adjustments })
-      (by-groups _ _ (ap (λ (y : Host). setParts (y .row)) (k .holds)) refl (ap (λ (y : Host). clockParts (y .row)) (k .holds)) refl)
+      (by-groups _ _ (ap (λ (y : Host). setParts (y .row)) (k .holds)) (ap (λ (y : Host). callerParts (y .row)) (k .holds)) refl (ap (λ (y : Host). clockParts (y .row)) (k .holds)) refl)
 
   -- another table alone
   pub tabled-with : (t : Table) → tabled x t ≡ hostWith x t (queueIn (x .row))

@@ -8,10 +8,10 @@ use lib.ListN.{getD}
 use Rattle.model.specs.Limits.{slots, semaphores}
 use Rattle.model.specs.State.{row}
 use Rattle.model.specs.Marks.{maskOf}
-use Rattle.model.specs.Checks.{slotOf, checkNumber}
+use Rattle.model.specs.Checks.{slotOf, checkQuery}
 use Rattle.model.specs.Counts.{forIncrease, forZero}
 use Rattle.model.specs.Events.{Result, answer, checked, seenAt, doQuery}
-use Rattle.model.proofs.CheckLaws.{number-passes}
+use Rattle.model.proofs.CheckLaws.{query-passes}
 use Rattle.model.proofs.Ones.{ones-mask}
 use Rattle.model.proofs.WholeSetLaws.{each-at}
 use Rattle.host.specs.Parts.{values, lasts}
@@ -25,19 +25,19 @@ refuses : (code : ℕ) (r : Result) (s : _) → (code ≡ 0 → ⊥) → showing
 refuses zero r s n = absurd (n refl)
 refuses (suc code) r s n = refl
 
-module _ (x : Host) (k : Held x) (i : ℤ) (n : ℕ) where
-  pub query-refused : {code : ℕ} → code ≡ checkNumber (stateIn x) i n → (code ≡ 0 → ⊥) → showing (answer (pos code)) 0 ≡ queriedOf (doQuery (stateIn x) i n)
+module _ (x : Host) (k : Held x) (p : ℕ) (i : ℤ) (n : ℕ) where
+  pub query-refused : {code : ℕ} → code ≡ checkQuery (stateIn x) p i n → (code ≡ 0 → ⊥) → showing (answer (pos code)) 0 ≡ queriedOf (doQuery (stateIn x) p i n)
   unfolding doQuery
   query-refused {code} e z = rw (← e) (refuses code _ (stateIn x) z)
 
   -- the semaphore is one of the table's
-  pub query-small : checkNumber (stateIn x) i n ≡ 0 → {slot : ℕ} → slot ≡ slotOf i → (slot < slots) × (n < semaphores)
+  pub query-small : checkQuery (stateIn x) p i n ≡ 0 → {slot : ℕ} → slot ≡ slotOf i → (slot < slots) × (n < semaphores)
   query-small z e =
-      let p = number-passes (stateIn x) i n z in
-      (omega (arith, e, p .slot), omega (arith, p .number, held-counts x k (slotOf i)))
+      let q = query-passes (stateIn x) p i n z in
+      (omega (arith, e, q .slot), omega (arith, q .number, held-counts x k (slotOf i)))
 
   -- "the count is the number of ones in it"
-  pub queried : {slot value last increase none : ℕ} {w : Waiters} → checkNumber (stateIn x) i n ≡ 0 → slot ≡ slotOf i → w ≡ waitersOf (tableIn x) slot (queueIn (x .row))
+  pub queried : {slot value last increase none : ℕ} {w : Waiters} → checkQuery (stateIn x) p i n ≡ 0 → slot ≡ slotOf i → w ≡ waitersOf (tableIn x) slot (queueIn (x .row))
       → increase ≡ getD (w .increase) n 0 → none ≡ getD (w .zero) n 0 → value ≡ getD (x .row values) (row slot + n) 0 → last ≡ getD (x .row lasts) (row slot + n) 0
       → record {
         code = pos 0;
@@ -49,7 +49,7 @@ module _ (x : Host) (k : Held x) (i : ℤ) (n : ℕ) where
         «zero_mask» = none;
         looks = 0;
       }
-      ≡ queriedOf (doQuery (stateIn x) i n)
+      ≡ queriedOf (doQuery (stateIn x) p i n)
   unfolding doQuery seenAt
   queried {slot} {value} {last} {increase} {none} {w} z es ew ei ez ev el =
       let v = held-invariant x k in

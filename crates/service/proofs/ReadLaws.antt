@@ -10,7 +10,7 @@ use Rattle.model.specs.declared.QueriedSet.{QueriedSet}
 use Rattle.model.specs.declared.Reading.{Reading}
 use Rattle.model.specs.Limits.{semaphores}
 use Rattle.model.specs.State.{State}
-use Rattle.model.specs.Checks.{slotOf, checkSet}
+use Rattle.model.specs.Checks.{slotOf, checkReadAll}
 use Rattle.model.specs.Events.{Read, numbersOf, doReadAll}
 use Rattle.model.specs.WholeSet.{shownAt, setChecked, querySet, readsFrom}
 use Rattle.model.proofs.WholeSetLaws.{set-as-read}
@@ -54,32 +54,32 @@ module _ (values increase zeros : List ℕ) where
 
 -- ---- of a host that holds a state
 
-module _ (x : Host) (k : Held x) (i : ℤ) where
+module _ (x : Host) (k : Held x) (p : ℕ) (i : ℤ) where
   -- a whole set has at most eight semaphores
-  few-shown : querySet (stateIn x) i .count ≤ semaphores
+  few-shown : querySet (stateIn x) p i .count ≤ semaphores
   unfolding querySet shownAt
-  few-shown = go (checkSet (stateIn x) i)
+  few-shown = go (checkReadAll (stateIn x) p i)
     where
       go : (code : ℕ) → setChecked code (shownAt (stateIn x) (slotOf i)) .count ≤ semaphores
       go zero = held-counts x k (slotOf i)
       go (suc code) = omega arith
 
   -- .. and so has a reading
-  pub few-all : length (doReadAll (stateIn x) i .answer .all) ≤ semaphores
+  pub few-all : length (doReadAll (stateIn x) p i .answer .all) ≤ semaphores
   few-all =
-      let q = querySet (stateIn x) i in
-      omega (arith, few-shown, ap length (set-as-read (stateIn x) (k .reached) i .all), length-reads (q .values) (q .increase) (q .zero) 0 (q .count))
+      let q = querySet (stateIn x) p i in
+      omega (arith, few-shown, ap length (set-as-read (stateIn x) (k .reached) p i .all), length-reads (q .values) (q .increase) (q .zero) 0 (q .count))
 
-  module _ {shown : QueriedSet} (e : shown ≡ querySet (stateIn x) i) where
+  module _ {shown : QueriedSet} (e : shown ≡ querySet (stateIn x) p i) where
     pub few-read : shown .count ≤ semaphores
     few-read = rw e few-shown
 
     -- the reading is what is read off it
     pub read-out : (numbers : List ℕ) {left : List ℕ} → left ≡ sets numbers 0 (numbersOf (readsFrom (shown .values) (shown .increase) (shown .zero) 0 (shown .count)))
-        → (record { code = shown .code; count = shown .count }, left) ≡ readOut numbers (doReadAll (stateIn x) i)
+        → (record { code = shown .code; count = shown .count }, left) ≡ readOut numbers (doReadAll (stateIn x) p i)
     read-out numbers {left} el =
-        let a = set-as-read (stateIn x) (k .reached) i in
-        let all : doReadAll (stateIn x) i .answer .all ≡ readsFrom (shown .values) (shown .increase) (shown .zero) 0 (shown .count) = rw e (a .all) in
-        let code : shown .code ≡ doReadAll (stateIn x) i .answer .code = ap (λ (q : QueriedSet). q .code) e ∙ a .code in
-        let count : shown .count ≡ length (doReadAll (stateIn x) i .answer .all) = sym (ap length all ∙ length-reads (shown .values) (shown .increase) (shown .zero) 0 (shown .count)) in
+        let a = set-as-read (stateIn x) (k .reached) p i in
+        let all : doReadAll (stateIn x) p i .answer .all ≡ readsFrom (shown .values) (shown .increase) (shown .zero) 0 (shown .count) = rw e (a .all) in
+        let code : shown .code ≡ doReadAll (stateIn x) p i .answer .code = ap (λ (q : QueriedSet). q .code) e ∙ a .code in
+        let count : shown .count ≡ length (doReadAll (stateIn x) p i .answer .all) = sym (ap length all ∙ length-reads (shown .values) (shown .increase) (shown .zero) 0 (shown .count)) in
         ap₂ (λ (q : Reading) (l : List ℕ). (q, l)) (ap₂ (λ (c : ℤ) (n : ℕ). record { code = c; count = n }) code count) (el ∙ ap (λ (rs : List Read). sets numbers 0 (numbersOf rs)) (sym all))

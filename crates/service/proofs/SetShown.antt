@@ -13,11 +13,12 @@ use Rattle.model.specs.declared.Set.{Set}
 use Rattle.model.specs.Limits.{slots, semaphores}
 use Rattle.model.specs.State.{Sleeper, row}
 use Rattle.model.specs.Marks.{maskOf}
-use Rattle.model.specs.Checks.{slotOf, checkSet}
+use Rattle.model.specs.Checks.{slotOf, checkReadAll}
+use Rattle.model.specs.Permission.{reading}
 use Rattle.model.specs.Counts.{forIncrease, forZero, countOf}
 use Rattle.model.specs.Events.{seenAt}
 use Rattle.model.specs.WholeSet.{eachFrom, each, shownAt, setRefused, setChecked, querySet}
-use Rattle.model.proofs.CheckLaws.{set-passes}
+use Rattle.model.proofs.CheckLaws.{access-passes}
 use Rattle.model.proofs.Ones.{ones-mask}
 use Rattle.model.proofs.WholeSetLaws.{each-at, each-long, each-is}
 use Rattle.host.specs.Parts.{values, lasts}
@@ -66,16 +67,16 @@ refuses-set : (code : ℕ) (shown : QueriedSet) → (code ≡ 0 → ⊥) → set
 refuses-set zero shown n = absurd (n refl)
 refuses-set (suc code) shown n = refl
 
-module _ (x : Host) (i : ℤ) where
-  pub set-refused : {code : ℕ} → code ≡ checkSet (stateIn x) i → (code ≡ 0 → ⊥) → setRefused code ≡ querySet (stateIn x) i
+module _ (x : Host) (p : ℕ) (i : ℤ) where
+  pub set-refused : {code : ℕ} → code ≡ checkReadAll (stateIn x) p i → (code ≡ 0 → ⊥) → setRefused code ≡ querySet (stateIn x) p i
   unfolding querySet
   set-refused {code} e z = rw (← e) (refuses-set code _ z)
 
-  pub set-small : checkSet (stateIn x) i ≡ 0 → {slot : ℕ} → slot ≡ slotOf i → slot < slots
-  set-small z e = omega (arith, e, set-passes (stateIn x) i z .slot)
+  pub set-small : checkReadAll (stateIn x) p i ≡ 0 → {slot : ℕ} → slot ≡ slotOf i → slot < slots
+  set-small z e = omega (arith, e, access-passes (stateIn x) p i reading z .named .slot)
 
   -- each number is what a query of its semaphore shows
-  pub set-shown : Held x → {slot : ℕ} {set : Set} {w : Waiters} {vs ls is zs : List ℕ} → checkSet (stateIn x) i ≡ 0 → slot ≡ slotOf i → set ≡ setAt (x .row) slot
+  pub set-shown : Held x → {slot : ℕ} {set : Set} {w : Waiters} {vs ls is zs : List ℕ} → checkReadAll (stateIn x) p i ≡ 0 → slot ≡ slotOf i → set ≡ setAt (x .row) slot
       → w ≡ waitersOf (tableIn x) slot (queueIn (x .row)) → vs ≡ from 0 semaphores (row slot) (x .row values) → ls ≡ from 0 semaphores (row slot) (x .row lasts)
       → is ≡ each (λ (n : ℕ). ones (getD (w .increase) n 0)) → zs ≡ each (λ (n : ℕ). ones (getD (w .zero) n 0))
       → record {
@@ -89,10 +90,10 @@ module _ (x : Host) (i : ℤ) where
         «increase_masks» = w .increase;
         «zero_masks» = w .zero;
       }
-      ≡ querySet (stateIn x) i
+      ≡ querySet (stateIn x) p i
   unfolding querySet shownAt seenAt
   set-shown k {slot} {set} {w} {vs} {ls} {is} {zs} z es et ew ev el ei ez =
       let v = held-invariant x k in
       let counts : (tests : ℕ → Sleeper → Bool) → each (λ (n : ℕ). ones (getD (each (λ (j : ℕ). maskOf (tests j) 0 (queueIn (x .row)))) n 0)) ≡ each (λ (n : ℕ). countOf (tests n) (queueIn (x .row))) =
       λ tests. each-same _ _ (λ n l. ap ones (each-at _ n l) ∙ ones-mask (tests n) (queueIn (x .row)) (v .fits) (v .distinct)) in
-      rw (ev, el, ei, ez, ew, et, z, es, from-all (x .row values) (row (slotOf i)), from-all (x .row lasts) (row (slotOf i)), counts (forIncrease (tableIn x) (slotOf i)), counts (forZero (tableIn x) (slotOf i)), set-in (x .row) (slotOf i) (set-passes (stateIn x) i z .slot))
+      rw (ev, el, ei, ez, ew, et, z, es, from-all (x .row values) (row (slotOf i)), from-all (x .row lasts) (row (slotOf i)), counts (forIncrease (tableIn x) (slotOf i)), counts (forZero (tableIn x) (slotOf i)), set-in (x .row) (slotOf i) (access-passes (stateIn x) p i reading z .named .slot))

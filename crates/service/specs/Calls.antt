@@ -15,7 +15,7 @@ use Rattle.model.specs.declared.Reply.the-variants as reply
 use Rattle.model.specs.Limits.{semaphores}
 use Rattle.model.specs.State.{freshState}
 use Rattle.model.specs.Waking.{waker}
-use Rattle.model.specs.Events.{Event, create, operate, setValue, remove, signal, exit, query, setAll, readAll, clock, eventOf, Result, event, doCreate, doOperate, doSetValue, doRemove, doSignal, doExit, doQuery, doSetAll, doReadAll, doClock}
+use Rattle.model.specs.Events.{Event, create, operate, setValue, remove, signal, exit, query, setAll, readAll, clock, actAs, eventOf, Result, event, doCreate, doOperate, doSetValue, doRemove, doSignal, doExit, doQuery, doSetAll, doReadAll, doClock, doActAs}
 use Rattle.model.specs.Runs.{run, All, Pairwise, Stuck, InTime}
 use Rattle.host.specs.Holding.{Host, hostOf, stateIn}
 use Rattle.service.specs.After.{After, tellingAt, afterOf, queriedOf, readOut, Replied, tells, shows, reads, repliedOf}
@@ -23,16 +23,17 @@ use Rattle.service.specs.After.{After, tellingAt, afterOf, queriedOf, re
 -- One call on a host, the event that it is, and what it leaves and returns. Each case is the promise of one function: y, or q, is
 -- what stands in what was lent and returned (its promise's left side).
 pub data Call (engine : Engine) (x : Host) : Event → Replied → Type 0 where
-  creates : (count read alter : ℕ) (y : After) → y ≡ afterOf (doCreate (stateIn x) count read alter) → Call engine x (create count read alter) (tells y)
+  creates : (p count mode : ℕ) (y : After) → y ≡ afterOf (doCreate (stateIn x) p count mode) → Call engine x (create p count mode) (tells y)
   operates : (p : ℕ) (i : ℤ) (wait : Wait) (bytes : List ℕ) (y : After) → y ≡ afterOf (doOperate (waker engine) (stateIn x) p i wait bytes) → Call engine x (operate p i wait bytes) (tells y)
-  setsValue : (i : ℤ) (n : ℕ) (v : ℤ) (y : After) → y ≡ afterOf (doSetValue (waker engine) (stateIn x) i n v) → Call engine x (setValue i n v) (tells y)
-  removes : (i : ℤ) (y : After) → y ≡ afterOf (doRemove (stateIn x) i) → Call engine x (remove i) (tells y)
+  setsValue : (p : ℕ) (i : ℤ) (n : ℕ) (v : ℤ) (y : After) → y ≡ afterOf (doSetValue (waker engine) (stateIn x) p i n v) → Call engine x (setValue p i n v) (tells y)
+  removes : (p : ℕ) (i : ℤ) (y : After) → y ≡ afterOf (doRemove (stateIn x) p i) → Call engine x (remove p i) (tells y)
   signals : (p : ℕ) (y : After) → y ≡ afterOf (doSignal (stateIn x) p) → Call engine x (signal p) (tells y)
   exits : (p : ℕ) (y : After) → y ≡ afterOf (doExit (waker engine) (stateIn x) p) → Call engine x (exit p) (tells y)
-  queries : (i : ℤ) (n : ℕ) (q : Queried) → q ≡ queriedOf (doQuery (stateIn x) i n) → Call engine x (query i n) (shows x q)
-  setsAll : (i : ℤ) (bytes : List ℕ) (y : After) → y ≡ afterOf (doSetAll (waker engine) (stateIn x) i bytes) → Call engine x (setAll i bytes) (tells y)
-  readsAll : (i : ℤ) (lent : List ℕ) → length lent ≡ 3 * semaphores → (q : Reading) (left : List ℕ) → (q, left) ≡ readOut lent (doReadAll (stateIn x) i) → Call engine x (readAll i) (reads x q left)
+  queries : (p : ℕ) (i : ℤ) (n : ℕ) (q : Queried) → q ≡ queriedOf (doQuery (stateIn x) p i n) → Call engine x (query p i n) (shows x q)
+  setsAll : (p : ℕ) (i : ℤ) (bytes : List ℕ) (y : After) → y ≡ afterOf (doSetAll (waker engine) (stateIn x) p i bytes) → Call engine x (setAll p i bytes) (tells y)
+  readsAll : (p : ℕ) (i : ℤ) (lent : List ℕ) → length lent ≡ 3 * semaphores → (q : Reading) (left : List ℕ) → (q, left) ≡ readOut lent (doReadAll (stateIn x) p i) → Call engine x (readAll p i) (reads x q left)
   clocks : (now : ℕ) (y : After) → y ≡ afterOf (doClock (stateIn x) now) → Call engine x (clock now) (tells y)
+  actsAs : (p user group : ℕ) (y : After) → y ≡ afterOf (doActAs (stateIn x) p user group) → Call engine x (actAs p user group) (tells y)
   runs : (e : declared.Event) (bytes : List ℕ) (y : Replied) → y ≡ repliedOf (eventOf e bytes) (event (waker engine) (stateIn x) (eventOf e bytes)) → Call engine x (eventOf e bytes) y
 
 -- calls in a row, "each handed the state its engine's last one returned"
@@ -80,7 +81,7 @@ pub record CallsAlike (quick plain : Replied) : Type 0 where
   pub reply : withoutLooks (quick .reply) ≡ withoutLooks (plain .reply)
   pub read : quick .read ≡ plain .read
   pub fewer : looksOf (quick .reply) ≤ looksOf (plain .reply)
-  pub bounded : looksOf (plain .reply) ≤ 36
+  pub bounded : looksOf (plain .reply) ≤ 28
 
 -- Demand 3, of calls that are the same list of events from a fresh host: what they leave and return is what each engine's run
 -- gives, and the same in both.

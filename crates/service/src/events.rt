@@ -1,4 +1,4 @@
-// The ten events, each in its own file, and what they tell.
+// The eleven events, each in its own file, and what they tell.
 ghost use mathlib.Core.Path.{_≡_};
 ghost use Prim.Native.Nat.{_%_};
 ghost use lib.IntN.{pos};
@@ -11,6 +11,7 @@ use model::Position;
 use model::Told;
 use service_waking::Tally;
 
+pub mod act_as;
 pub mod clock;
 pub mod create;
 pub mod exit;

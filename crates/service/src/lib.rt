@@ -1,9 +1,9 @@
-// The service: ten events over a host that the caller holds and lends, and a whole set shown at once.
+// The service: eleven events over a host that the caller holds and lends, and a whole set shown at once.
 //
 // An event is lent the host's row of bytes and its undo adjustments, and a list for the wakings; it tells its code, its
 // value, its looks, and how many it woke. Its promise is one equation with the event's definition in the crate model,
 // refusals included: of the host after it, the list, and what it tells, for every host that is fresh or came back from an
-// event. Create, remove, signal, query, read all and the clock wake nobody by a rule; operate, set value, set all and exit go by the
+// event. Create, remove, signal, query, read all, the clock and act as wake nobody by a rule; operate, set value, set all and exit go by the
 // engine they are handed. `run` does any of them. `query_set` shows what a query of each semaphore of a set would, by one walk over its
 // sleepers; the event read all has its numbers from it.
 mod events;
@@ -15,6 +15,7 @@ ghost use Rattle.model.specs.Waking.{waker};
 ghost use Rattle.model.specs.Events.{event as eventIn, eventOf};
 ghost use Rattle.host.specs.Holding.{Held, hostIn, stateIn};
 ghost use Rattle.service.specs.After.{repliedIn, repliedOf, numbersAfter};
+pub use events::act_as::act_as;
 pub use events::clock::clock;
 pub use events::create::create;
 pub use events::exit::exit;
@@ -51,9 +52,11 @@ pub fn run(
     ensures { λ _. ⌜ now (numbers .exit) ≡ numbersAfter (now (numbers .entry)) (eventOf event (now (bytes .entry))) (eventIn (waker engine) (stateIn (hostIn (now (host .entry)) (now (adjustments .entry)))) (eventOf event (now (bytes .entry)))) ⌝ }
 {
     match event {
-        Event::Create { count, read, alter } => {
-            Reply::Told(create(host, adjustments, list, count, read, alter))
-        }
+        Event::Create {
+            process,
+            count,
+            mode,
+        } => Reply::Told(create(host, adjustments, list, process, count, mode)),
         Event::Operate {
             process,
             identifier,
@@ -69,26 +72,52 @@ pub fn run(
             bytes,
         )),
         Event::SetValue {
+            process,
             identifier,
             number,
             value,
-        } => Reply::Told(set_value(host, adjustments, list, engine, identifier, number, value)),
-        Event::Remove { identifier } => Reply::Told(remove(host, adjustments, list, identifier)),
+        } => Reply::Told(set_value(
+            host,
+            adjustments,
+            list,
+            engine,
+            process,
+            identifier,
+            number,
+            value,
+        )),
+        Event::Remove {
+            process,
+            identifier,
+        } => { Reply::Told(remove(host, adjustments, list, process, identifier)) }
         Event::Signal { process } => Reply::Told(signal(host, adjustments, list, process)),
         Event::Exit { process } => Reply::Told(exit(host, adjustments, list, engine, process)),
-        Event::Query { identifier, number } => {
+        Event::Query {
+            process,
+            identifier,
+            number,
+        } => {
             clear(list);
-            Reply::Seen(query(&*host, &*adjustments, identifier, number))
+            Reply::Seen(query(&*host, &*adjustments, process, identifier, number))
         }
-        Event::SetAll { identifier } => {
-            Reply::Told(set_all(host, adjustments, list, engine, identifier, bytes))
-        }
-        Event::ReadAll { identifier } => {
+        Event::SetAll {
+            process,
+            identifier,
+        } => { Reply::Told(set_all(host, adjustments, list, engine, process, identifier, bytes)) }
+        Event::ReadAll {
+            process,
+            identifier,
+        } => {
             // As a slice once: that tells the proof how long it is.
             let _all: &[u32] = &*numbers;
             clear(list);
-            Reply::Read(read_all(&*host, &*adjustments, numbers, identifier))
+            Reply::Read(read_all(&*host, &*adjustments, numbers, process, identifier))
         }
         Event::Clock { time } => Reply::Told(clock(host, adjustments, list, time)),
+        Event::ActAs {
+            process,
+            user,
+            group,
+        } => Reply::Told(act_as(host, adjustments, list, process, user, group)),
     }
 }

@@ -14,8 +14,9 @@ use judging::answer;
 use judging::slot_of;
 use model::ALL_ADJUSTMENTS;
 use model::QueriedSet;
+use model::READ;
 use model::SEMAPHORES;
-use service_checks::check_set;
+use service_checks::check_access;
 
 // How many processes are in each mask: the number of ones in it.
 fn ones_of(masks: [u8; SEMAPHORES]) -> [u32; SEMAPHORES]
@@ -46,16 +47,17 @@ fn refused(code: u8) -> QueriedSet
     }
 }
 
-// Refused as a query is, with 22 if there is no live set.
+// Refused as a reading is.
 pub fn query_set(
     host: &[u8; HOST_BYTES],
     adjustments: &[i16; ALL_ADJUSTMENTS],
+    process: u8,
     identifier: i32,
 ) -> QueriedSet
     requires { ⌜ Held (hostIn (now host) (now adjustments)) ⌝ }
-    ensures { λ r. ⌜ r ≡ querySet (stateIn (hostIn (now (host .entry)) (now (adjustments .entry)))) identifier ⌝ }
+    ensures { λ r. ⌜ r ≡ querySet (stateIn (hostIn (now (host .entry)) (now (adjustments .entry)))) process identifier ⌝ }
 {
-    let code = check_set(host, identifier);
+    let code = check_access(host, process, identifier, READ);
     if code != 0 {
         return refused(code);
     }

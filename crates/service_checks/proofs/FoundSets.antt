@@ -1,6 +1,6 @@
 -- What the checks find in the sets, which they read from the row by slot: the set that an identifier names, and the lowest free
 -- slot.
-use Prim.Native.Nat.{ℕ, suc, _+_, _-_, _/_, _%_, _≤_, _<_}
+use Prim.Native.Nat.{ℕ, zero, suc, _+_, _-_, _/_, _%_, _≤_, _<_}
 use native.Mathlib.Nat.{mod-lt, zero-lt-suc}
 use native.Mathlib.Omega.{arith}
 use mathlib.Core.Path.{_≡_, refl, sym, _∙_}
@@ -15,12 +15,14 @@ use mir.Syntax.{w32}
 use mir.Val.{SFits, toZ, ofZ}
 use mir.Facts.{toZ-ofZ}
 use Rattle.model.specs.declared.Set.{Set}
+use Rattle.model.specs.declared.Caller.{Caller}
 use Rattle.model.specs.Limits.{slots}
-use Rattle.model.specs.State.{noSet}
-use Rattle.model.specs.Checks.{slotOf, namesSet, freeFrom, freeSlot}
+use Rattle.model.specs.State.{callerOf, noSet}
+use Rattle.model.specs.Checks.{orElse, slotOf, namesSet, freeFrom, freeSlot}
 use Rattle.host.specs.Parts.{Row}
-use Rattle.host.specs.Holding.{setAt, setsIn}
+use Rattle.host.specs.Holding.{setAt, setsIn, callerIn, callersIn}
 use Rattle.host.proofs.SetRows.{set-in}
+use Rattle.host.proofs.CallerRows.{caller-in}
 
 -- a set that was read is the one of the list
 read : (r : Row) {slot : ℕ} {s : Set} → s ≡ setAt r slot → slot < slots → getD (setsIn r) slot noSet ≡ s
@@ -28,11 +30,20 @@ read r {slot} e h = set-in r slot h ∙ sym e
 
 -- ---- the set that an identifier names
 
+-- the code of checks, by whether an earlier one of them applies
+pub first-decides : (code later : ℕ) → code ≢ 0 → orElse code later ≡ code
+first-decides zero later n = absurd (n refl)
+first-decides (suc code) later n = refl
+
 -- the slot in an identifier is one of the four
 pub slot-within : (i : ℤ) → slotOf i < slots
 unfolding slotOf
 slot-within (pos i) = mod-lt i (zero-lt-suc 3)
 slot-within (negsuc i) = omega arith
+
+-- the numbers of a caller that were read are those that it has
+pub caller-found : (r : Row) {p : ℕ} {c : Caller} → 1 ≤ p → c ≡ callerIn r p → callerOf (callersIn r) p ≡ c
+caller-found r {p} some e = caller-in r p some ∙ sym e
 
 -- what the calls with an identifier found: whether it names a set, and the set in its slot
 module _ {i : ℤ} (f : SFits w32 i) where

@@ -5,27 +5,35 @@
 ghost use mathlib.Core.Path.{_≡_};
 ghost use mathlib.Core.Bool.{cond, not, _||_};
 ghost use mathlib.Core.List.{List};
-ghost use Prim.Native.Nat.{_%_};
-ghost use lib.Dec.{eqb, ltb};
+ghost use Prim.Native.Nat.{_%_, _<_};
+ghost use lib.Dec.{eqb, ltb, leb};
 ghost use lib.IntN.{ℤ};
 ghost use Rattle.model.specs.Limits.{operationBytes};
 ghost use Rattle.model.specs.Operation.{operationsOf};
-ghost use Rattle.model.specs.Checks.{namesSet, freeSlot, checkCreate, checkOperate, checkNumber, checkSetValue, checkSetAll, checkSet, checkProcess, checkClock};
+ghost use Rattle.model.specs.Permission.{owns as ownsIt};
+ghost use Rattle.model.specs.State.{callerOf};
+ghost use Rattle.model.specs.Checks.{namesSet, setOf, may as mayDo, freeSlot, checkCaller, checkAccess, checkCreate, checkOperate, checkQuery, checkSetValue, checkSetAll, checkRemove, checkProcess, checkClock};
 ghost use Rattle.judging.specs.Named.{namedWithin};
 ghost use Rattle.host.specs.Parts.{rowIn};
 ghost use Rattle.host.specs.Holding.{setsIn, hostIn, stateIn};
 ghost use Rattle.service_queue.specs.Seated.{Seated};
 use host::HOST_BYTES;
+use host::caller_of;
 use host::set_at;
 use host::time_of;
 use judging::Checked;
 use judging::all_in_range;
 use judging::check_array;
 use judging::in_range;
+use judging::owns;
+use judging::permits;
 use judging::slot_of;
+use model::ALTER;
 use model::ARRAY_BYTES;
+use model::MODE_MAX;
 use model::OPERATION_BYTES;
 use model::PROCESSES;
+use model::READ;
 use model::SEMAPHORES;
 use model::SETS;
 use model::TIME_MAX;
@@ -76,17 +84,72 @@ pub fn free_slot(host: &[u8; HOST_BYTES]) -> usize
     slot
 }
 
-// Create.
-pub fn check_create(host: &[u8; HOST_BYTES], count: u8) -> u8
-    ensures { λ r. ⌜ ((a : List ℤ) → r ≡ checkCreate (stateIn (hostIn (now (host .entry)) a)) count) ⌝ }
+// Every event that names a caller: a process, and awake.
+pub fn check_caller(host: &[u8; HOST_BYTES], process: u8) -> u8
+    requires { ⌜ Seated (rowIn (now host)) ⌝ }
+    ensures { λ r. ⌜ ((a : List ℤ) → r ≡ checkCaller (stateIn (hostIn (now (host .entry)) a)) process) ⌝ }
 {
-    if beyond(count, SEMAPHORES) {
-        22
-    } else if free_slot(host) == SETS {
-        28
-    } else {
-        0
+    if beyond(process, PROCESSES) {
+        return 3;
     }
+    if is_asleep(host, process) { 16 } else { 0 }
+}
+
+// May the process do this with the set in the identifier's slot?
+fn may(host: &[u8; HOST_BYTES], process: u8, identifier: i32, asked: u16) -> bool
+    requires { ⌜ 0 < process ⌝ }
+    ensures { λ r. ⌜ ((a : List ℤ) → r ≡ mayDo (stateIn (hostIn (now (host .entry)) a)) process identifier asked) ⌝ }
+{
+    permits(
+        caller_of(host, process),
+        set_at(host, slot_of(identifier)),
+        asked,
+    )
+}
+
+// May it remove that set?
+fn may_remove(host: &[u8; HOST_BYTES], process: u8, identifier: i32) -> bool
+    requires { ⌜ 0 < process ⌝ }
+    ensures { λ r. ⌜ ((a : List ℤ) → r ≡ ownsIt (callerOf (stateIn (hostIn (now (host .entry)) a) .callers) process) (setOf (stateIn (hostIn (now (host .entry)) a)) identifier)) ⌝ }
+{
+    owns(caller_of(host, process), set_at(host, slot_of(identifier)))
+}
+
+// What asks something of a set: read all and a whole set ask nothing else.
+pub fn check_access(host: &[u8; HOST_BYTES], process: u8, identifier: i32, asked: u16) -> u8
+    requires { ⌜ Seated (rowIn (now host)) ⌝ }
+    ensures { λ r. ⌜ ((a : List ℤ) → r ≡ checkAccess (stateIn (hostIn (now (host .entry)) a)) process identifier asked) ⌝ }
+{
+    let code = check_caller(host, process);
+    if code != 0 {
+        return code;
+    }
+    if !names_set(host, identifier) {
+        return 22;
+    }
+    if may(host, process, identifier, asked) {
+        0
+    } else {
+        13
+    }
+}
+
+// Create.
+pub fn check_create(host: &[u8; HOST_BYTES], process: u8, count: u8, mode: u16) -> u8
+    requires { ⌜ Seated (rowIn (now host)) ⌝ }
+    ensures { λ r. ⌜ ((a : List ℤ) → r ≡ checkCreate (stateIn (hostIn (now (host .entry)) a)) process count mode) ⌝ }
+{
+    let code = check_caller(host, process);
+    if code != 0 {
+        return code;
+    }
+    if beyond(count, SEMAPHORES) {
+        return 22;
+    }
+    if MODE_MAX < mode {
+        return 22;
+    }
+    if free_slot(host) == SETS { 28 } else { 0 }
 }
 
 // Operate: the code, and the semaphores that the array names, none if it is refused.
@@ -95,11 +158,12 @@ pub fn check_operate(host: &[u8; HOST_BYTES], process: u8, identifier: i32, byte
     ensures { λ r. ⌜ ((a : List ℤ) → r .code ≡ checkOperate (stateIn (hostIn (now (host .entry)) a)) process identifier (now (bytes .entry))) ⌝ }
     ensures { λ r. ⌜ r .names ≡ cond (eqb (r .code) 0) (namedWithin 0 (operationsOf (now (bytes .entry)))) 0 ⌝ }
 {
-    if beyond(process, PROCESSES) {
-        return Checked { code: 3, names: 0 };
-    }
-    if is_asleep(host, process) {
-        return Checked { code: 16, names: 0 };
+    let code = check_caller(host, process);
+    if code != 0 {
+        return Checked {
+            code: code,
+            names: 0,
+        };
     }
     if no_array(bytes.len()) {
         return Checked { code: 22, names: 0 };
@@ -111,36 +175,64 @@ pub fn check_operate(host: &[u8; HOST_BYTES], process: u8, identifier: i32, byte
         return Checked { code: 22, names: 0 };
     }
     let set = set_at(host, slot_of(identifier));
-    check_array(process, set.count, set.read, set.alter, bytes)
+    let reads = may(host, process, identifier, READ);
+    let alters = may(host, process, identifier, ALTER);
+    check_array(set.count, reads, alters, bytes)
 }
 
-// Query; set value asks it first.
-pub fn check_number(host: &[u8; HOST_BYTES], identifier: i32, number: u16) -> u8
-    ensures { λ r. ⌜ ((a : List ℤ) → r ≡ checkNumber (stateIn (hostIn (now (host .entry)) a)) identifier number) ⌝ }
+// Does the set in the identifier's slot lack a semaphore of this number?
+fn lacks(host: &[u8; HOST_BYTES], identifier: i32, number: u16) -> bool
+    ensures { λ r. ⌜ ((a : List ℤ) → r ≡ leb (setOf (stateIn (hostIn (now (host .entry)) a)) identifier .count) number) ⌝ }
 {
-    if !names_set(host, identifier) {
-        return 22;
-    }
     let set = set_at(host, slot_of(identifier));
-    if set.count as u16 <= number { 22 } else { 0 }
+    set.count as u16 <= number
+}
+
+// Query.
+pub fn check_query(host: &[u8; HOST_BYTES], process: u8, identifier: i32, number: u16) -> u8
+    requires { ⌜ Seated (rowIn (now host)) ⌝ }
+    ensures { λ r. ⌜ ((a : List ℤ) → r ≡ checkQuery (stateIn (hostIn (now (host .entry)) a)) process identifier number) ⌝ }
+{
+    let code = check_access(host, process, identifier, READ);
+    if code != 0 {
+        return code;
+    }
+    if lacks(host, identifier, number) {
+        22
+    } else {
+        0
+    }
 }
 
 // Set value.
-pub fn check_set_value(host: &[u8; HOST_BYTES], identifier: i32, number: u16, value: i32) -> u8
-    ensures { λ r. ⌜ ((a : List ℤ) → r ≡ checkSetValue (stateIn (hostIn (now (host .entry)) a)) identifier number value) ⌝ }
+pub fn check_set_value(
+    host: &[u8; HOST_BYTES],
+    process: u8,
+    identifier: i32,
+    number: u16,
+    value: i32,
+) -> u8
+    requires { ⌜ Seated (rowIn (now host)) ⌝ }
+    ensures { λ r. ⌜ ((a : List ℤ) → r ≡ checkSetValue (stateIn (hostIn (now (host .entry)) a)) process identifier number value) ⌝ }
 {
-    if check_number(host, identifier, number) != 0 {
+    let code = check_access(host, process, identifier, ALTER);
+    if code != 0 {
+        return code;
+    }
+    if lacks(host, identifier, number) {
         return 22;
     }
     if in_range(value) { 0 } else { 34 }
 }
 
 // Set all: as many values as the set has semaphores, then each in range.
-pub fn check_set_all(host: &[u8; HOST_BYTES], identifier: i32, bytes: &[u8]) -> u8
-    ensures { λ r. ⌜ ((a : List ℤ) → r ≡ checkSetAll (stateIn (hostIn (now (host .entry)) a)) identifier (now (bytes .entry))) ⌝ }
+pub fn check_set_all(host: &[u8; HOST_BYTES], process: u8, identifier: i32, bytes: &[u8]) -> u8
+    requires { ⌜ Seated (rowIn (now host)) ⌝ }
+    ensures { λ r. ⌜ ((a : List ℤ) → r ≡ checkSetAll (stateIn (hostIn (now (host .entry)) a)) process identifier (now (bytes .entry))) ⌝ }
 {
-    if !names_set(host, identifier) {
-        return 22;
+    let code = check_access(host, process, identifier, ALTER);
+    if code != 0 {
+        return code;
     }
     let set = set_at(host, slot_of(identifier));
     if bytes.len() != VALUE_BYTES * (set.count as usize) {
@@ -149,11 +241,23 @@ pub fn check_set_all(host: &[u8; HOST_BYTES], identifier: i32, bytes: &[u8]) -> 
     if all_in_range(bytes) { 0 } else { 34 }
 }
 
-// Remove, read all, and a whole set.
-pub fn check_set(host: &[u8; HOST_BYTES], identifier: i32) -> u8
-    ensures { λ r. ⌜ ((a : List ℤ) → r ≡ checkSet (stateIn (hostIn (now (host .entry)) a)) identifier) ⌝ }
+// Remove.
+pub fn check_remove(host: &[u8; HOST_BYTES], process: u8, identifier: i32) -> u8
+    requires { ⌜ Seated (rowIn (now host)) ⌝ }
+    ensures { λ r. ⌜ ((a : List ℤ) → r ≡ checkRemove (stateIn (hostIn (now (host .entry)) a)) process identifier) ⌝ }
 {
-    if names_set(host, identifier) { 0 } else { 22 }
+    let code = check_caller(host, process);
+    if code != 0 {
+        return code;
+    }
+    if !names_set(host, identifier) {
+        return 22;
+    }
+    if may_remove(host, process, identifier) {
+        0
+    } else {
+        1
+    }
 }
 
 // Signal and exit.

@@ -21,7 +21,7 @@ use Rattle.service_queue.proofs.MovingLaws.{order-moved}
 -- ---- a queue is put into a row
 
 pub queue-again : (r : Row) (p q : List Sleeper) → withQueue (withQueue r p) q ≡ withQueue r q
-queue-again r p q = by-groups _ _ refl refl refl refl
+queue-again r p q = by-groups _ _ refl refl refl refl refl
 
 module _ (r : Row) {r′ : Row} {q : List Sleeper} (e : r′ ≡ withQueue r q) (f : Queued q) where
   -- the row shows it

@@ -47,15 +47,15 @@ sets-aside r t q = refl
 
 -- one queue over another, and over a table
 pub queue-over : (r : Row) (t u : Table) (q p : List Sleeper) → withQueue (withTable (withQueue (withTable r t) q) u) p ≡ withQueue (withTable r u) p
-queue-over r t u q p = by-groups _ _ refl refl refl refl
+queue-over r t u q p = by-groups _ _ refl refl refl refl refl
 
 -- a table that the row has already
 pub table-same : (r : Row) (a : List ℤ) (q : List Sleeper) → withQueue (withTable r (tableIn (record { row = r; adjustments = a }))) q ≡ withQueue r q
-table-same r a q = by-groups _ _ refl refl refl refl
+table-same r a q = by-groups _ _ refl refl refl refl refl
 
 -- a table under a queue
 pub table-under : (r : Row) (t : Table) (q : List Sleeper) → withTable (withQueue r q) t ≡ withQueue (withTable r t) q
-table-under r t q = by-groups _ _ refl refl refl refl
+table-under r t q = by-groups _ _ refl refl refl refl refl
 
 -- ---- a world in what is lent
 

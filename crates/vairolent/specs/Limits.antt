@@ -1,5 +1,5 @@
 -- The limits that a caller in another language is told.
-use Rattle.model.specs.Limits.{slots, semaphores, processes, operations, valueMax, allAdjustments}
+use Rattle.model.specs.Limits.{slots, semaphores, processes, operations, valueMax, modeMax, allAdjustments}
 use Rattle.host.specs.Parts.{hostBytes}
 use Rattle.vairolent.specs.declared.Limits.{Limits}
 
@@ -11,6 +11,7 @@ theLimits =
       processes = processes;
       operations = operations;
       «value_max» = valueMax;
+      «mode_max» = modeMax;
       «row_bytes» = hostBytes;
       adjustments = allAdjustments;
     }

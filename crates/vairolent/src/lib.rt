@@ -8,7 +8,7 @@ ghost use mathlib.Core.Path.{_≡_};
 ghost use mathlib.Core.List.{[]};
 ghost use Rattle.model.specs.State.{freshState};
 ghost use Rattle.model.specs.Waking.{waker};
-ghost use Rattle.model.specs.Events.{doCreate, doOperate, doSetValue, doRemove, doSignal, doExit, doQuery, doSetAll, doClock};
+ghost use Rattle.model.specs.Events.{doCreate, doOperate, doSetValue, doRemove, doSignal, doExit, doQuery, doSetAll, doClock, doActAs};
 ghost use Rattle.model.specs.WholeSet.{querySet};
 ghost use Rattle.model.specs.declared.Engine.the-variants.{Quick};
 ghost use Rattle.host.specs.Holding.{Held, hostIn, hostOf, stateIn};
@@ -19,6 +19,7 @@ ghost use Rattle.vairolent.specs.Limits.{theLimits};
 use host::HOST_BYTES;
 use model::ALL_ADJUSTMENTS;
 use model::Engine;
+use model::MODE_MAX;
 use model::OPERATIONS;
 use model::PROCESSES;
 use model::Position;
@@ -64,6 +65,7 @@ pub struct Limits {
     pub processes: usize,
     pub operations: usize,
     pub value_max: usize,
+    pub mode_max: usize,
     pub row_bytes: usize,
     pub adjustments: usize,
 }
@@ -78,6 +80,7 @@ pub extern "C" fn vairolent_limits() -> Limits
         processes: PROCESSES,
         operations: OPERATIONS,
         value_max: VALUE_MAX as usize,
+        mode_max: MODE_MAX as usize,
         row_bytes: HOST_BYTES,
         adjustments: ALL_ADJUSTMENTS,
     }
@@ -141,14 +144,14 @@ pub extern "C" fn vairolent_create_in(
     row: &mut [u8; HOST_BYTES],
     adjustments: &mut [i16; ALL_ADJUSTMENTS],
     wakings: &mut [u8; WAKING_BYTES],
+    process: u8,
     count: u8,
-    read: u8,
-    alter: u8,
+    mode: u16,
 ) -> Reported
     requires { ⌜ Held (hostIn (now row) (now adjustments)) ⌝ }
-    ensures { λ r. ⌜ handedIn (now (row .exit)) (now (adjustments .exit)) (now (wakings .exit)) r ≡ handedOf (afterOf (doCreate (stateIn (hostIn (now (row .entry)) (now (adjustments .entry)))) count read alter)) ⌝ }
+    ensures { λ r. ⌜ handedIn (now (row .exit)) (now (adjustments .exit)) (now (wakings .exit)) r ≡ handedOf (afterOf (doCreate (stateIn (hostIn (now (row .entry)) (now (adjustments .entry)))) process count mode)) ⌝ }
 {
-    report(service::create(row, adjustments, wakings, count, read, alter))
+    report(service::create(row, adjustments, wakings, process, count, mode))
 }
 
 #[no_mangle]
@@ -182,18 +185,20 @@ pub extern "C" fn vairolent_set_value_in(
     row: &mut [u8; HOST_BYTES],
     adjustments: &mut [i16; ALL_ADJUSTMENTS],
     wakings: &mut [u8; WAKING_BYTES],
+    process: u8,
     identifier: i32,
     number: u16,
     value: i32,
 ) -> Reported
     requires { ⌜ Held (hostIn (now row) (now adjustments)) ⌝ }
-    ensures { λ r. ⌜ handedIn (now (row .exit)) (now (adjustments .exit)) (now (wakings .exit)) r ≡ handedOf (afterOf (doSetValue (waker Quick) (stateIn (hostIn (now (row .entry)) (now (adjustments .entry)))) identifier number value)) ⌝ }
+    ensures { λ r. ⌜ handedIn (now (row .exit)) (now (adjustments .exit)) (now (wakings .exit)) r ≡ handedOf (afterOf (doSetValue (waker Quick) (stateIn (hostIn (now (row .entry)) (now (adjustments .entry)))) process identifier number value)) ⌝ }
 {
     report(service::set_value(
         row,
         adjustments,
         wakings,
         Engine::Quick,
+        process,
         identifier,
         number,
         value,
@@ -205,12 +210,13 @@ pub extern "C" fn vairolent_remove_in(
     row: &mut [u8; HOST_BYTES],
     adjustments: &mut [i16; ALL_ADJUSTMENTS],
     wakings: &mut [u8; WAKING_BYTES],
+    process: u8,
     identifier: i32,
 ) -> Reported
     requires { ⌜ Held (hostIn (now row) (now adjustments)) ⌝ }
-    ensures { λ r. ⌜ handedIn (now (row .exit)) (now (adjustments .exit)) (now (wakings .exit)) r ≡ handedOf (afterOf (doRemove (stateIn (hostIn (now (row .entry)) (now (adjustments .entry)))) identifier)) ⌝ }
+    ensures { λ r. ⌜ handedIn (now (row .exit)) (now (adjustments .exit)) (now (wakings .exit)) r ≡ handedOf (afterOf (doRemove (stateIn (hostIn (now (row .entry)) (now (adjustments .entry)))) process identifier)) ⌝ }
 {
-    report(service::remove(row, adjustments, wakings, identifier))
+    report(service::remove(row, adjustments, wakings, process, identifier))
 }
 
 #[no_mangle]
@@ -245,13 +251,22 @@ pub extern "C" fn vairolent_set_all_in(
     row: &mut [u8; HOST_BYTES],
     adjustments: &mut [i16; ALL_ADJUSTMENTS],
     wakings: &mut [u8; WAKING_BYTES],
+    process: u8,
     identifier: i32,
     values: &[u8],
 ) -> Reported
     requires { ⌜ Held (hostIn (now row) (now adjustments)) ⌝ }
-    ensures { λ r. ⌜ handedIn (now (row .exit)) (now (adjustments .exit)) (now (wakings .exit)) r ≡ handedOf (afterOf (doSetAll (waker Quick) (stateIn (hostIn (now (row .entry)) (now (adjustments .entry)))) identifier (now (values .entry)))) ⌝ }
+    ensures { λ r. ⌜ handedIn (now (row .exit)) (now (adjustments .exit)) (now (wakings .exit)) r ≡ handedOf (afterOf (doSetAll (waker Quick) (stateIn (hostIn (now (row .entry)) (now (adjustments .entry)))) process identifier (now (values .entry)))) ⌝ }
 {
-    report(service::set_all(row, adjustments, wakings, Engine::Quick, identifier, values))
+    report(service::set_all(
+        row,
+        adjustments,
+        wakings,
+        Engine::Quick,
+        process,
+        identifier,
+        values,
+    ))
 }
 
 #[no_mangle]
@@ -268,26 +283,43 @@ pub extern "C" fn vairolent_clock_in(
 }
 
 #[no_mangle]
+pub extern "C" fn vairolent_act_as_in(
+    row: &mut [u8; HOST_BYTES],
+    adjustments: &mut [i16; ALL_ADJUSTMENTS],
+    wakings: &mut [u8; WAKING_BYTES],
+    process: u8,
+    user: u32,
+    group: u32,
+) -> Reported
+    requires { ⌜ Held (hostIn (now row) (now adjustments)) ⌝ }
+    ensures { λ r. ⌜ handedIn (now (row .exit)) (now (adjustments .exit)) (now (wakings .exit)) r ≡ handedOf (afterOf (doActAs (stateIn (hostIn (now (row .entry)) (now (adjustments .entry)))) process user group)) ⌝ }
+{
+    report(service::act_as(row, adjustments, wakings, process, user, group))
+}
+
+#[no_mangle]
 pub extern "C" fn vairolent_query_in(
     row: &[u8; HOST_BYTES],
     adjustments: &[i16; ALL_ADJUSTMENTS],
+    process: u8,
     identifier: i32,
     number: u16,
 ) -> Queried
     requires { ⌜ Held (hostIn (now row) (now adjustments)) ⌝ }
-    ensures { λ r. ⌜ r ≡ queriedOf (doQuery (stateIn (hostIn (now (row .entry)) (now (adjustments .entry)))) identifier number) ⌝ }
+    ensures { λ r. ⌜ r ≡ queriedOf (doQuery (stateIn (hostIn (now (row .entry)) (now (adjustments .entry)))) process identifier number) ⌝ }
 {
-    service::query(row, adjustments, identifier, number)
+    service::query(row, adjustments, process, identifier, number)
 }
 
 #[no_mangle]
 pub extern "C" fn vairolent_query_set_in(
     row: &[u8; HOST_BYTES],
     adjustments: &[i16; ALL_ADJUSTMENTS],
+    process: u8,
     identifier: i32,
 ) -> QueriedSet
     requires { ⌜ Held (hostIn (now row) (now adjustments)) ⌝ }
-    ensures { λ r. ⌜ r ≡ querySet (stateIn (hostIn (now (row .entry)) (now (adjustments .entry)))) identifier ⌝ }
+    ensures { λ r. ⌜ r ≡ querySet (stateIn (hostIn (now (row .entry)) (now (adjustments .entry)))) process identifier ⌝ }
 {
-    service::query_set(row, adjustments, identifier)
+    service::query_set(row, adjustments, process, identifier)
 }

@@ -1,12 +1,12 @@
 //! Single events, chosen with an eye on what is there.
 
 use second::event::{self, Body, Operation};
-use second::{NOWAIT, OPERATIONS, UNDO};
+use second::{Credentials, NOWAIT, OPERATIONS, UNDO};
 
 use crate::events::EVENTS;
 use crate::random::Rng;
 use crate::scene::{Scene, Target};
-use crate::times;
+use crate::{times, users};
 
 pub const MAX: i32 = 32_767;
 /// Out of the range of values: by one mostly, and where sixteen bits are not enough.
@@ -100,6 +100,9 @@ pub fn sleepy(scene: &mut Scene) -> Body {
 
 /// An event that may well wake somebody.
 pub fn stir(scene: &mut Scene) -> Body {
+    if scene.awake().is_empty() {
+        return uncalled(scene);
+    }
     match scene.rng.below(8) {
         0 | 1 => set_value(scene),
         2 => exit(scene),
@@ -110,10 +113,10 @@ pub fn stir(scene: &mut Scene) -> Body {
 }
 
 pub fn create(scene: &mut Scene) -> Body {
+    let creator = scene.someone();
     let rng = &mut scene.rng;
     let count = if rng.once_in(12) { rng.byte() } else { rng.between(1, 8) as u8 };
-    let masks = if rng.once_in(3) { [rng.byte() | rng.byte(), rng.byte()] } else { [0xFF; 2] };
-    event::create(count, masks[0], masks[1])
+    event::create(creator, count, users::mode(rng))
 }
 
 /// Small values mostly, the largest, the one that is there and those beside it.
@@ -132,7 +135,7 @@ pub fn set_value(scene: &mut Scene) -> Body {
     let target = scene.target();
     let number = number(&mut scene.rng, &target);
     let value = value(&mut scene.rng, target.values[usize::from(number)]);
-    event::set_value(target.identifier, number, value)
+    event::set_value(scene.someone(), target.identifier, number, value)
 }
 
 /// Values for all semaphores of a set, in range; some stay as they are, at times most of them.
@@ -148,11 +151,17 @@ pub fn values(rng: &mut Rng, target: &Target) -> Vec<i32> {
 /// All values of a set.
 pub fn set_all(scene: &mut Scene) -> Body {
     let target = scene.target();
-    event::set_all(target.identifier, &values(&mut scene.rng, &target))
+    event::set_all(scene.someone(), target.identifier, &values(&mut scene.rng, &target))
 }
 
+/// Mostly by a process that may.
 pub fn remove(scene: &mut Scene) -> Body {
-    event::remove(scene.target().identifier)
+    let target = scene.target();
+    let remover = match scene.owner(&target) {
+        Some(owner) if !scene.rng.once_in(4) => owner,
+        _ => scene.someone(),
+    };
+    event::remove(remover, target.identifier)
 }
 
 pub fn signal(scene: &mut Scene) -> Body {
@@ -170,11 +179,17 @@ pub fn exit(scene: &mut Scene) -> Body {
 pub fn query(scene: &mut Scene) -> Body {
     let target = scene.target();
     let number = number(&mut scene.rng, &target);
-    event::query(target.identifier, number)
+    event::query(scene.someone(), target.identifier, number)
 }
 
 pub fn read_all(scene: &mut Scene) -> Body {
-    event::read_all(scene.target().identifier)
+    let target = scene.target();
+    event::read_all(scene.someone(), target.identifier)
+}
+
+pub fn act_as(scene: &mut Scene) -> Body {
+    let Credentials { user, group } = users::credentials(&mut scene.rng);
+    event::act_as(scene.someone(), user, group)
 }
 
 pub fn clock(scene: &mut Scene) -> Body {
@@ -190,9 +205,20 @@ pub fn ask(scene: &mut Scene) -> Body {
     }
 }
 
+/// An event that has no caller: while all sleep, no other can wake them.
+fn uncalled(scene: &mut Scene) -> Body {
+    match scene.rng.below(2) {
+        0 => exit(scene),
+        _ => clock(scene),
+    }
+}
+
 /// Any event, as often as in everyday traffic.
 pub fn any(scene: &mut Scene) -> Body {
-    match scene.rng.below(46) {
+    if scene.awake().is_empty() && !scene.rng.once_in(4) {
+        return uncalled(scene);
+    }
+    match scene.rng.below(48) {
         0..=1 => create(scene),
         2..=6 => set_value(scene),
         7 => remove(scene),
@@ -204,53 +230,110 @@ pub fn any(scene: &mut Scene) -> Body {
         28..=29 => set_all(scene),
         30..=31 => read_all(scene),
         32..=33 => clock(scene),
+        34 => act_as(scene),
+        35 => miscalled(scene),
         _ => operate(scene),
     }
 }
 
-/// An event that some check refuses, if only by one.
+/// The same event by another process; a time is nobody's.
+pub fn by(process: u8, mut body: Body) -> Body {
+    if body[0] != 9 {
+        body[1] = process;
+    }
+    body
+}
+
+/// A number that no process has.
+pub fn nobody(rng: &mut Rng) -> u8 {
+    rng.pick(&[0, 9, 10, 128, 255])
+}
+
+/// An event by a process that can't call: one asleep, or none at all.
+fn miscalled(scene: &mut Scene) -> Body {
+    let calls: [fn(&mut Scene) -> Body; 8] =
+        [create, operate, set_value, remove, query, set_all, read_all, act_as];
+    let body = scene.rng.pick(&calls)(scene);
+    let process = match &scene.asleep()[..] {
+        asleep @ [_, ..] if scene.rng.once_in(2) => scene.rng.pick(asleep),
+        _ => nobody(&mut scene.rng),
+    };
+    by(process, body)
+}
+
+/// An event that some check refuses, if only by one; at times by any process, or by none.
 pub fn refusal(scene: &mut Scene) -> Body {
+    let body = match scene.rng.below(3) {
+        0 => mistaken_call(scene),
+        _ => mistake(scene),
+    };
+    match scene.rng.below(8) {
+        0 => by(nobody(&mut scene.rng), body),
+        1 => by(scene.process(), body),
+        _ => body,
+    }
+}
+
+/// A number that is too high in the set.
+fn beyond(rng: &mut Rng, target: &Target) -> u16 {
+    target.values.len() as u16 + rng.pick(&[0, 0, 1, 8, 248, 256, 65_000])
+}
+
+/// An operate that is empty, too long, or names a semaphore or a set that is not there.
+fn mistaken_call(scene: &mut Scene) -> Body {
     let target = scene.target();
-    let (stranger, now) = (stale(scene), scene.time());
-    let (process, caller) = (scene.process(), scene.caller());
+    let stranger = stale(scene);
+    let caller = scene.caller();
     let rng = &mut scene.rng;
-    let outside = rng.pick(&[0, 9, 10, 128, 255]);
     let either = rng.pick(&[target.identifier, stranger]);
-    let beyond = target.values.len() as u16 + rng.pick(&[0, 0, 1, 8, 248, 256, 65_000]);
-    let too_many = vec![operation(rng, &target); rng.pick(&[33, 33, 34, 64])];
     let most = rng.pick(&[7, 7, 7, OPERATIONS - 1]);
     let mut array = operations(rng, &target, most);
-    match rng.below(22) {
-        0 => event::create(rng.pick(&[0, 9, 255]), 0xFF, 0xFF),
-        1 => event::create(rng.between(1, 8) as u8, rng.byte(), rng.byte()),
-        2 => call(rng, outside, either, &array),
-        3 => call(rng, process, either, &[]),
-        4 => call(rng, process, either, &too_many),
-        5 | 6 => {
-            array.insert(rng.below(array.len() + 1), (beyond, amount(rng, 0), flags(rng)));
-            call(rng, caller, either, &array)
+    match rng.below(6) {
+        0 => array.clear(),
+        1 => array = vec![operation(rng, &target); rng.pick(&[33, 33, 34, 64])],
+        2 => array = vec![(beyond(rng, &target), 0, flags(rng)); rng.pick(&[1, 32, 33])],
+        3 => {
+            let place = rng.below(array.len() + 1);
+            array.insert(place, (beyond(rng, &target), amount(rng, 0), flags(rng)));
         }
-        7 | 8 => {
-            array.push((0, narrow(rng.pick(&[0, 1, -1])), flags(rng)));
-            call(rng, process, target.identifier, &array)
-        }
-        9 => event::set_value(stranger, 0, 40_000),
-        10 => event::set_value(target.identifier, beyond, 40_000),
-        11 => event::set_value(target.identifier, 0, rng.pick(&NO_VALUES)),
-        12 => event::remove(stranger),
-        13 => event::signal(outside),
-        14 => event::exit(outside),
-        15 => event::query(stranger, number(rng, &target)),
-        16 => event::query(target.identifier, beyond),
-        17 => event::read_all(stranger),
-        18 => event::set_all(stranger, &values(rng, &target)),
-        19 => event::clock(times::refused(rng, now)),
-        _ => refused_setting(rng, &target),
+        _ => array.push((0, narrow(rng.pick(&[0, 1, -1])), flags(rng))),
+    }
+    call(rng, caller, either, &array)
+}
+
+/// Any other event with a mistake, or with two.
+fn mistake(scene: &mut Scene) -> Body {
+    let mut target = scene.target();
+    let (stranger, now) = (stale(scene), scene.time());
+    if scene.rng.once_in(6) {
+        target.identifier = scene.rng.pick(&[target.identifier, target.identifier, stranger]);
+        return refused_setting(scene, &target);
+    }
+    let someone = scene.someone();
+    let rng = &mut scene.rng;
+    let (count, beyond, none) = (rng.between(1, 8) as u8, beyond(rng, &target), nobody(rng));
+    match rng.below(14) {
+        0 => event::create(someone, rng.pick(&[0, 9, 255]), users::mode(rng)),
+        1 => event::create(someone, count, users::no_mode(rng)),
+        2 => event::create(someone, count, users::mode(rng)),
+        3 => event::set_value(someone, stranger, 0, 40_000),
+        4 => event::set_value(someone, target.identifier, beyond, 40_000),
+        5 => event::set_value(someone, target.identifier, 0, rng.pick(&NO_VALUES)),
+        6 => event::remove(someone, stranger),
+        7 => event::signal(none),
+        8 => event::exit(none),
+        9 => event::query(someone, stranger, number(rng, &target)),
+        10 => event::query(someone, target.identifier, beyond),
+        11 => event::read_all(someone, stranger),
+        12 => event::set_all(someone, stranger, &values(rng, &target)),
+        _ => event::clock(times::refused(rng, now)),
     }
 }
 
 /// A setting of all values that are not as many as the set has, or with one out of range, or both.
-pub fn refused_setting(rng: &mut Rng, target: &Target) -> Body {
+pub fn refused_setting(scene: &mut Scene, target: &Target) -> Body {
+    let someone = scene.someone();
+    let rng = &mut scene.rng;
     let count = target.values.len();
     let number = rng.pick(&[0, count - 1, count + 1, 9, 255, count, count, count]);
     let mut values = values(rng, target);
@@ -259,7 +342,7 @@ pub fn refused_setting(rng: &mut Rng, target: &Target) -> Body {
         let inner = rng.below(number);
         values[rng.pick(&[0, inner, number - 1])] = rng.pick(&NO_VALUES);
     }
-    event::set_all(target.identifier, &values)
+    event::set_all(someone, target.identifier, &values)
 }
 
 /// An identifier close to a live one that names nothing, mostly.

@@ -50,10 +50,7 @@ fn one_by_one(scene: &mut Scene) {
 /// later than the younger, or both at once.
 fn together(scene: &mut Scene) {
     let sets = scene.rng.between(1, 4) as usize;
-    while scene.targets().len() < sets && !scene.is_full() {
-        let count = scene.rng.between(1, 8) as u8;
-        scene.push(event::create(count, 0xFF, 0xFF));
-    }
+    scene.create_up_to(sets);
     if scene.rng.once_in(3) {
         scene.wake_all();
     }
@@ -82,8 +79,8 @@ fn in_time(scene: &mut Scene) {
     let id = target.identifier;
     let (sleeper, other) = scene.two_callers();
     let (a, b) = two_numbers(&mut scene.rng, &target);
-    scene.push(event::set_value(id, a, 0));
-    scene.push(event::set_value(id, b, 0));
+    scene.push(event::set_value(other, id, a, 0));
+    scene.push(event::set_value(other, id, b, 0));
     let array: [Operation; 2] = [scene.rng.pick(&[(b, 0, NOWAIT), (b, 9, 0)]), (a, -1, 0)];
     let wait = scene.rng.between(1, 9) as u32;
     let end = scene.time() + u64::from(wait);
@@ -94,18 +91,18 @@ fn in_time(scene: &mut Scene) {
     let ended = match scene.rng.below(8) {
         0 => event::signal(sleeper),
         1 => event::exit(sleeper),
-        2 => event::remove(id),
-        3 => event::set_value(id, a, 1),
+        2 => event::remove(scene.owner(&target).unwrap_or(other), id),
+        3 => event::set_value(other, id, a, 1),
         4 => scene.setting(id, a, 1),
         5 => event::operate(other, id, &[(a, 1, 0)]),
-        _ => event::set_value(id, b, MAX),
+        _ => event::set_value(other, id, b, MAX),
     };
     scene.push(ended);
     if scene.rng.once_in(2) {
         scene.add(|scene| choice::call(&mut scene.rng, sleeper, id, &[(a, -9, 0)]));
     }
     scene.push(event::clock(end));
-    scene.push(event::read_all(id));
+    scene.push(event::read_all(other, id));
 }
 
 /// An operate that has no time to sleep, however it ends.

@@ -3,7 +3,7 @@
 use second::event::{self, Body};
 use second::{run_file, ENTRY, FILE_MAX, HEAD};
 
-use crate::events::{unknown, EVENTS};
+use crate::events::{callerless, unknown, EVENTS};
 use crate::kind::Kind;
 use crate::kind::Make::Bytes;
 use crate::medley;
@@ -37,7 +37,9 @@ fn kinds(rng: Rng, limit: usize) -> Vec<u8> {
 
 /// Files with a body that is empty, or of the wrong length for its kind and number: 204.
 fn lengths(rng: Rng, limit: usize) -> Vec<u8> {
-    damaged(rng, limit, &[empty_body, wrong_length, wrong_length, wrong_number, two_bad_bodies])
+    let ways: [Way; 6] =
+        [empty_body, wrong_length, wrong_length, wrong_number, without_caller, two_bad_bodies];
+    damaged(rng, limit, &ways)
 }
 
 fn damaged(mut rng: Rng, limit: usize, ways: &[Way]) -> Vec<u8> {
@@ -101,13 +103,13 @@ fn of_size(rng: &mut Rng, size: usize) -> Vec<u8> {
     let mut bodies = good_bodies(rng, size - 64);
     let mut present = run_file(&bodies).len();
     while present < size {
-        // With an entry each these have 6, 8, 9 and 11 bytes: any sum from 14 on can be reached.
-        let mut choices = vec![event::exit(1), event::create(1, 1, 1), event::remove(0)];
-        choices.push(event::query(0, 0));
+        // With an entry each these have 6, 9, 10 and 11 bytes: any sum from 15 on can be reached.
+        let mut choices = vec![event::exit(1), event::create(1, 1, 1), event::remove(1, 0)];
+        choices.push(event::operate(1, 0, &[]));
         let rest = size - present;
         choices.retain(|body| {
             let left = rest.checked_sub(ENTRY + body.len());
-            left.map_or(false, |left| ![1, 2, 3, 4, 5, 7, 10, 13].contains(&left))
+            left.map_or(false, |left| ![1, 2, 3, 4, 5, 7, 8, 13, 14].contains(&left))
         });
         if choices.is_empty() {
             break;
@@ -223,9 +225,14 @@ fn wrong_number(rng: &mut Rng, bodies: Vec<Body>) -> Vec<u8> {
     let (mut body, place) = match rng.below(3) {
         0 => (event::operate(1, 0, &vec![(0, 1, 0); number]), 6),
         1 => (event::timed_operate(1, 0, 1, &vec![(0, 1, 0); number]), 10),
-        _ => (event::set_all(0, &vec![1; number]), 5),
+        _ => (event::set_all(1, 0, &vec![1; number]), 6),
     };
     body[place] = body[place].wrapping_add(rng.pick(&[1, 2, 43, 64, 128, 255]));
+    with_body(rng, bodies, body)
+}
+
+fn without_caller(rng: &mut Rng, bodies: Vec<Body>) -> Vec<u8> {
+    let body = callerless(body_of_any_kind(rng));
     with_body(rng, bodies, body)
 }
 

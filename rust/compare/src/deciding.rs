@@ -33,7 +33,7 @@ pub fn deciding(scene: &mut Scene) {
     scene.rng.shuffle(&mut numbers);
     let Plan { values, taken, array, number, from, to } = plan(&mut scene.rng, &numbers);
     for (number, value) in values {
-        scene.push(event::set_value(id, number, value));
+        scene.push(event::set_value(holder, id, number, value));
     }
     if taken > 0 {
         scene.push(event::operate(sleeper, id, &[(number, narrow(-taken), UNDO)]));
@@ -47,7 +47,7 @@ pub fn deciding(scene: &mut Scene) {
         0 => event::operate(holder, id, &[(number, change, 0)]),
         1 => event::exit(holder),
         2 => scene.setting(id, number, to),
-        _ => event::set_value(id, number, to),
+        _ => event::set_value(holder, id, number, to),
     };
     scene.push(end);
     scene.add(|scene| choice::call(&mut scene.rng, sleeper, id, &array));

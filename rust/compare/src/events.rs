@@ -21,15 +21,15 @@ pub struct EventKind {
 }
 
 /// By their numbers.
-pub const EVENTS: [EventKind; 11] = [
+pub const EVENTS: [EventKind; 12] = [
     EventKind {
         number: 1,
         name: "create",
         asks: false,
-        codes: &[0, 22, 28],
+        codes: &[0, 3, 16, 22, 28],
         wakings: &[],
         small: |_| event::create(1, 1, 1),
-        drawn: |field, _| event::create(field() as u8, field() as u8, field() as u8),
+        drawn: |field, _| event::create(field() as u8, field() as u8, field() as u16),
     },
     EventKind {
         number: 2,
@@ -47,19 +47,21 @@ pub const EVENTS: [EventKind; 11] = [
         number: 3,
         name: "set value",
         asks: false,
-        codes: &[0, 22, 34],
+        codes: &[0, 3, 13, 16, 22, 34],
         wakings: &[0, 11, 34],
-        small: |_| event::set_value(0, 0, 0),
-        drawn: |field, _| event::set_value(field() as i32, field() as u16, field() as i32),
+        small: |_| event::set_value(1, 0, 0, 0),
+        drawn: |field, _| {
+            event::set_value(field() as u8, field() as i32, field() as u16, field() as i32)
+        },
     },
     EventKind {
         number: 4,
         name: "remove",
         asks: false,
-        codes: &[0, 22],
+        codes: &[0, 1, 3, 16, 22],
         wakings: &[43],
-        small: |_| event::remove(0),
-        drawn: |field, _| event::remove(field() as i32),
+        small: |_| event::remove(1, 0),
+        drawn: |field, _| event::remove(field() as u8, field() as i32),
     },
     EventKind {
         number: 5,
@@ -83,10 +85,10 @@ pub const EVENTS: [EventKind; 11] = [
         number: 7,
         name: "query",
         asks: true,
-        codes: &[0, 22],
+        codes: &[0, 3, 13, 16, 22],
         wakings: &[],
-        small: |_| event::query(0, 0),
-        drawn: |field, _| event::query(field() as i32, field() as u16),
+        small: |_| event::query(1, 0, 0),
+        drawn: |field, _| event::query(field() as u8, field() as i32, field() as u16),
     },
     EventKind {
         number: 8,
@@ -113,22 +115,31 @@ pub const EVENTS: [EventKind; 11] = [
         number: 10,
         name: "set all",
         asks: false,
-        codes: &[0, 22, 34],
+        codes: &[0, 3, 13, 16, 22, 34],
         wakings: &[0, 11, 34],
-        small: |rng| event::set_all(0, &vec![0; rng.below(10)]),
+        small: |rng| event::set_all(1, 0, &vec![0; rng.below(10)]),
         drawn: |field, values| {
             let values: Vec<i32> = (0..values).map(|_| field() as i32).collect();
-            event::set_all(field() as i32, &values)
+            event::set_all(field() as u8, field() as i32, &values)
         },
     },
     EventKind {
         number: 11,
         name: "read all",
         asks: true,
-        codes: &[0, 22],
+        codes: &[0, 3, 13, 16, 22],
         wakings: &[],
-        small: |_| event::read_all(0),
-        drawn: |field, _| event::read_all(field() as i32),
+        small: |_| event::read_all(1, 0),
+        drawn: |field, _| event::read_all(field() as u8, field() as i32),
+    },
+    EventKind {
+        number: 12,
+        name: "act as",
+        asks: false,
+        codes: &[0, 3, 16],
+        wakings: &[],
+        small: |_| event::act_as(1, 1, 1),
+        drawn: |field, _| event::act_as(field() as u8, field() as u32, field() as u32),
     },
 ];
 
@@ -146,6 +157,12 @@ pub fn unknown() -> Vec<u8> {
     (0..=u8::MAX).filter(|number| EVENTS.iter().all(|kind| kind.number != *number)).collect()
 }
 
+/// The body without the process behind its kind.
+pub fn callerless(mut body: Body) -> Body {
+    body.remove(1);
+    body
+}
+
 #[cfg(test)]
 mod tests {
     use super::*;
@@ -155,7 +172,7 @@ mod tests {
     #[test]
     fn unknown_numbers() {
         let unknown = unknown();
-        assert_eq!(unknown[..4], [0, 12, 13, 14]);
+        assert_eq!(unknown[..4], [0, 13, 14, 15]);
         for number in 0..=u8::MAX {
             let refused = matches!(Event::decode(&[number]), Err(Bad::Kind));
             assert_eq!(refused, unknown.contains(&number), "kind {number}");
@@ -169,6 +186,11 @@ mod tests {
             for body in [(kind.small)(&mut rng), (kind.drawn)(&mut || rng.next(), 255)] {
                 assert!(Event::decode(&body).is_ok(), "{}", kind.name);
                 assert_eq!(place(&body), index);
+                assert!(
+                    matches!(Event::decode(&callerless(body)), Err(Bad::Body)),
+                    "{}",
+                    kind.name
+                );
             }
         }
     }

@@ -59,6 +59,7 @@ impl Lengths {
 mod tests {
     use super::*;
     use crate::line::followed;
+    use crate::scene::OPEN;
     use second::event::{clock, create, operate, set_value, signal, timed_operate};
     use second::run_file;
 
@@ -66,7 +67,7 @@ mod tests {
     fn called_and_woken() {
         let takes = [(0, -1, 0); 255];
         let run = [
-            create(1, 255, 255),
+            create(8, 1, OPEN),
             operate(1, 0, &takes[..32]),
             operate(2, 0, &takes[..2]),
             // Refused: their lengths are of no sleeper.
@@ -75,7 +76,7 @@ mod tests {
             operate(0, 0, &takes),
             operate(2, 0, &[]),
             signal(2),
-            set_value(0, 0, 32),
+            set_value(8, 0, 0, 32),
             timed_operate(1, 0, 5, &takes[..4]),
             clock(5),
         ];

@@ -2,35 +2,45 @@
 
 #![forbid(unsafe_code)]
 
+mod call;
 mod check;
+mod checks;
 mod choice;
+mod class;
 mod clock;
+mod counts;
 mod damage;
 mod deciding;
 mod end;
 mod events;
 mod faults;
+mod grants;
 mod kind;
 mod lengths;
 mod line;
 mod long;
 mod medley;
+mod modes;
 mod options;
 mod positions;
 mod program;
 mod random;
+mod rights;
 mod scene;
 mod script;
+mod standing;
 mod steady;
 mod sweep;
 mod tally;
 mod times;
 mod traffic;
+mod users;
 mod values;
 mod versus;
 mod waits;
 mod wholes;
 mod work;
+mod world;
 mod zeros;
 
 use std::process::ExitCode;

@@ -5,13 +5,14 @@ use crate::deciding;
 use crate::kind::Kind;
 use crate::kind::Make::Script;
 use crate::long;
+use crate::modes;
 use crate::scene::Scene;
 use crate::script;
 use crate::values;
 
 pub static MEDLEY: Kind = Kind::new("medley", Script(play), "episodes of all the scripts below");
 
-pub static SCRIPTS: [Kind; 18] = [
+pub static SCRIPTS: [Kind; 19] = [
     Kind::new("mixed", Script(script::mixed), "everyday traffic"),
     Kind::new("dense", Script(script::dense), "seven and eight asleep, and what wakes them"),
     Kind::new("chains", Script(script::chain), "wake chains as in situation 11"),
@@ -30,19 +31,19 @@ pub static SCRIPTS: [Kind; 18] = [
     Kind::new("long", Script(long::long), "arrays of twenty to thirty-two operations"),
     Kind::new("whole", Script(values::whole), "all values of a set, set and read at once"),
     Kind::new("timed", Script(clock::timed), "waits, and times that end them"),
+    Kind::new(
+        "modes",
+        Script(modes::modes),
+        "owners, groups and modes, and callers of every class",
+    ),
 ];
-
-/// Draws of a script; those beyond the last play nothing. With another number of them a seed would
-/// have other files.
-const DRAWS: usize = 19;
 
 /// An episode of a random script, or of everyday traffic.
 pub fn play(scene: &mut Scene) {
     if scene.rng.once_in(3) {
         (0..8).for_each(|_| script::mixed(scene));
     }
-    let drawn = scene.rng.below(DRAWS);
-    if let Some(Script(play)) = SCRIPTS.get(drawn).map(|kind| kind.make) {
+    if let Script(play) = SCRIPTS[scene.rng.below(SCRIPTS.len())].make {
         play(scene);
     }
 }

@@ -102,6 +102,7 @@ fn operation_at(operations: &[u8], position: u8) -> Option<&[u8]> {
 mod tests {
     use super::*;
     use crate::line::followed;
+    use crate::scene::OPEN;
     use second::event::{clock, create, operate, set_value, signal, timed_operate, Body};
     use second::{run_file, NOWAIT, UNDO};
 
@@ -114,7 +115,7 @@ mod tests {
     #[test]
     fn at_once() {
         let run = [
-            create(2, 255, 255),
+            create(8, 2, OPEN),
             operate(1, 0, &[(0, 0, 0), (1, 0, 0), (0, -1, NOWAIT)]),
             operate(1, 0, &[(1, 32_767, 0), (1, 1, 0)]),
             operate(1, 0, &[(1, -1, 0)]),
@@ -122,7 +123,7 @@ mod tests {
             operate(1, 0, &[(1, -1, 0)]),
             operate(2, 0, &[(2, 0, 0)]),
             operate(2, 0, &[(0, 0, 0)]),
-            set_value(0, 0, 32_768),
+            set_value(8, 0, 0, 32_768),
             signal(1),
         ];
         let wanted =
@@ -133,11 +134,11 @@ mod tests {
     #[test]
     fn at_waking() {
         let run = [
-            create(3, 255, 255),
+            create(8, 3, OPEN),
             operate(1, 0, &[(0, 0, NOWAIT), (1, -1, 0)]),
             operate(2, 0, &[(2, 0, 0), (1, -1, 0), (2, 32_767, 0), (2, 1, 0)]),
-            set_value(0, 0, 1),
-            set_value(0, 1, 1),
+            set_value(8, 0, 0, 1),
+            set_value(8, 0, 1, 1),
         ];
         let wanted = [
             (Decision::Operate(-1), 1),
@@ -154,7 +155,7 @@ mod tests {
     #[test]
     fn with_a_wait() {
         let run = [
-            create(2, 255, 255),
+            create(8, 2, OPEN),
             timed_operate(1, 0, 0, &[(0, 0, 0), (0, -1, 0)]),
             timed_operate(1, 0, 0, &[(0, -1, NOWAIT)]),
             timed_operate(1, 0, 0, &[(1, 32_767, 0), (1, 1, 0)]),
@@ -173,8 +174,8 @@ mod tests {
     #[test]
     fn by_an_adjustment() {
         let run = [
-            create(2, 255, 255),
-            set_value(0, 0, 32_767),
+            create(8, 2, OPEN),
+            set_value(8, 0, 0, 32_767),
             operate(1, 0, &[(0, -32_767, UNDO)]),
             operate(1, 0, &[(1, 1, 0), (0, -1, UNDO)]),
             operate(2, 0, &[(0, 1, 0)]),

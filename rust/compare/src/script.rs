@@ -4,7 +4,7 @@
 use second::{event, NOWAIT, UNDO};
 
 use crate::choice::{self, narrow, two_numbers, MAX};
-use crate::scene::{wakes_with, wakings, Scene};
+use crate::scene::{wakes_with, wakings, Scene, OPEN};
 
 /// Everyday traffic.
 pub fn mixed(scene: &mut Scene) {
@@ -41,7 +41,8 @@ pub fn chain(scene: &mut Scene) {
     let least = scene.rng.pick(&[2, 5, 8]);
     let target = scene.open_set(least);
     scene.calm(target.identifier);
-    let links = scene.rng.between(2, target.values.len() as i32) as u16;
+    // The last process stays awake.
+    let links = scene.rng.between(2, target.values.len().min(7) as i32) as u16;
     let mut order: Vec<u16> = (0..links).collect();
     if scene.rng.once_in(3) {
         scene.rng.shuffle(&mut order);
@@ -55,9 +56,9 @@ pub fn chain(scene: &mut Scene) {
         scene.push(event::operate(link as u8 + 1, target.identifier, &array));
     }
     let first = match scene.rng.below(4) {
-        0 | 1 if links < 8 => event::operate(8, target.identifier, &[(links - 1, 1, 0)]),
+        0 | 1 => event::operate(8, target.identifier, &[(links - 1, 1, 0)]),
         2 => scene.setting(target.identifier, links - 1, 1),
-        _ => event::set_value(target.identifier, links - 1, 1),
+        _ => event::set_value(scene.someone(), target.identifier, links - 1, 1),
     };
     scene.push(first);
 }
@@ -68,7 +69,7 @@ pub fn undo(scene: &mut Scene) {
     let number = choice::number(&mut scene.rng, &target);
     let (holder, other) = scene.two_callers();
     let start = scene.rng.pick(&[0, 0, MAX, MAX, 5, 16_000]);
-    scene.push(event::set_value(target.identifier, number, start));
+    scene.push(event::set_value(scene.someone(), target.identifier, number, start));
     let step = scene.rng.pick(&[1, 2, 3, 10, 16_384]);
     let take = scene.rng.pick(&[MAX, MAX - 1, step, 16_384]).min(MAX - start + step);
     // Upwards from low values, else downwards, so that the adjustment goes the other way.
@@ -90,13 +91,13 @@ pub fn undo(scene: &mut Scene) {
         set(scene, target.identifier, number, value);
     }
     scene.push(event::exit(holder));
-    scene.push(event::query(target.identifier, number));
+    scene.push(event::query(scene.someone(), target.identifier, number));
 }
 
 /// Sets a value, or all of its set, of which the others stay as they are.
 fn set(scene: &mut Scene, identifier: i32, number: u16, value: i32) {
     let body = match scene.rng.below(2) {
-        0 => event::set_value(identifier, number, value),
+        0 => event::set_value(scene.someone(), identifier, number, value),
         _ => scene.setting(identifier, number, value),
     };
     scene.push(body);
@@ -110,13 +111,13 @@ pub fn same_value(scene: &mut Scene) {
     let (holder, other) = scene.two_callers();
     let id = target.identifier;
     if scene.rng.once_in(2) {
-        scene.push(event::set_value(id, a, MAX));
-        scene.push(event::set_value(id, b, 0));
+        scene.push(event::set_value(scene.someone(), id, a, MAX));
+        scene.push(event::set_value(scene.someone(), id, b, 0));
         scene.push(event::operate(holder, id, &[(a, -32_767, UNDO)]));
         let up = narrow(scene.rng.between(16_384, MAX));
         let array = [(a, up, UNDO), (a, -up, 0), (a, up, UNDO), (b, -1, 0)];
         scene.push(event::operate(holder, id, &array));
-        scene.push(event::read_all(id));
+        scene.push(event::read_all(other, id));
         set(scene, id, a, 0);
     } else {
         fill(scene, 3);
@@ -134,7 +135,8 @@ pub fn extremes(scene: &mut Scene) {
     let target = scene.open_set(1);
     let number = choice::number(&mut scene.rng, &target);
     let value = scene.rng.pick(&[0, 1, MAX - 1, MAX]);
-    scene.push(event::set_value(target.identifier, number, value));
+    scene.rouse(2);
+    scene.push(event::set_value(scene.someone(), target.identifier, number, value));
     for _ in 0..3 {
         let caller = scene.caller();
         let mut array = Vec::new();
@@ -146,7 +148,7 @@ pub fn extremes(scene: &mut Scene) {
     }
     let leaver = scene.process();
     scene.push(event::exit(leaver));
-    scene.push(event::query(target.identifier, number));
+    scene.push(event::query(scene.someone(), target.identifier, number));
 }
 
 /// A semaphore changes under a sleeper that waits at another: by set value, by operate, by the exit
@@ -164,8 +166,8 @@ fn change_under(scene: &mut Scene, code: u8) {
         _ if scene.rng.once_in(2) => (0, step, (a, 0, NOWAIT)),
         _ => (step, 0, (a, narrow(-step), NOWAIT)),
     };
-    scene.push(event::set_value(id, b, 0));
-    scene.push(event::set_value(id, a, to));
+    scene.push(event::set_value(scene.someone(), id, b, 0));
+    scene.push(event::set_value(scene.someone(), id, a, to));
     scene.push(event::operate(holder, id, &[(a, narrow(from - to), UNDO)]));
     scene.add(|scene| choice::call(&mut scene.rng, sleeper, id, &[first, (b, -1, 0)]));
     if scene.rng.once_in(3) {
@@ -173,7 +175,7 @@ fn change_under(scene: &mut Scene, code: u8) {
         fill(scene, asleep.min(7));
     }
     let change = match scene.rng.below(4) {
-        0 => event::set_value(id, a, to),
+        0 => event::set_value(scene.someone(), id, a, to),
         1 => event::operate(holder, id, &[(a, narrow(to - from), 0)]),
         2 => scene.setting(id, a, to),
         _ => event::exit(holder),
@@ -204,33 +206,30 @@ pub fn generations(scene: &mut Scene) {
     let id = target.identifier;
     let number = choice::number(&mut scene.rng, &target);
     scene.push(event::operate(caller, id, &[(number, 3, UNDO)]));
-    scene.push(event::remove(id));
+    scene.remove(&target);
     if scene.rng.once_in(3) {
         scene.push(event::exit(caller));
     }
     let stale = choice::stale(scene);
-    scene.push(event::create(8, 0xFF, 0xFF));
+    scene.push(event::create(scene.someone(), 8, OPEN));
     scene.push(event::operate(caller, id, &[(number, 1, 0)]));
-    scene.push(event::set_all(id, &target.values));
-    scene.push(event::query(stale, number));
-    scene.push(event::read_all(stale));
-    scene.push(event::remove(id));
+    scene.push(event::set_all(scene.someone(), id, &target.values));
+    scene.push(event::query(scene.someone(), stale, number));
+    scene.push(event::read_all(scene.someone(), stale));
+    scene.push(event::remove(scene.someone(), id));
     scene.push(event::exit(caller));
     scene.add(choice::ask);
 }
 
 /// A process that holds adjustments in several sets exits, and wakes sleepers in them.
 pub fn exits(scene: &mut Scene) {
-    while scene.targets().len() < 3 && !scene.is_full() {
-        let count = scene.rng.between(1, 8) as u8;
-        scene.push(event::create(count, 0xFF, 0xFF));
-    }
+    scene.create_up_to(3);
     let (holder, _) = scene.two_callers();
     let mut held = Vec::new();
     for target in scene.targets() {
         let number = choice::number(&mut scene.rng, &target);
         let amount = scene.rng.between(1, 3);
-        scene.push(event::set_value(target.identifier, number, amount));
+        scene.push(event::set_value(scene.someone(), target.identifier, number, amount));
         scene.push(event::operate(holder, target.identifier, &[(number, narrow(-amount), UNDO)]));
         held.push((target.identifier, number));
     }
@@ -247,25 +246,30 @@ pub fn exits(scene: &mut Scene) {
 
 /// Refusals of every code.
 pub fn refusals(scene: &mut Scene) {
+    if scene.awake().is_empty() {
+        scene.wake_all();
+    }
     if scene.rng.once_in(12) {
         let asleep = scene.rng.below(4);
         fill(scene, asleep);
     }
     if scene.rng.once_in(12) {
         scene.add(choice::create);
+        scene.add(choice::act_as);
     }
     scene.add(choice::refusal);
 }
 
 /// Every semaphore of every set is asked for, each alone and all at once, with sleepers at them.
 pub fn queries(scene: &mut Scene) {
-    let asleep = scene.rng.between(2, 8) as usize;
+    let asleep = scene.rng.between(2, 7) as usize;
+    scene.rouse(1);
     fill(scene, asleep);
     for target in scene.targets() {
         for number in 0..=target.values.len() as u16 {
-            scene.push(event::query(target.identifier, number));
+            scene.push(event::query(scene.someone(), target.identifier, number));
         }
-        scene.push(event::read_all(target.identifier));
+        scene.push(event::read_all(scene.someone(), target.identifier));
     }
     scene.add(choice::stir);
 }
@@ -284,8 +288,8 @@ pub fn seven_asleep(scene: &mut Scene) {
     let value = target.values[usize::from(number)];
     let amount = scene.rng.between(if value > 0 { -1 } else { 0 }, 1);
     let body = match scene.rng.below(8) {
-        0 => event::set_value(id, number, scene.rng.between(0, 3)),
-        1 => event::query(id, scene.rng.below(8) as u16),
+        0 => event::set_value(8, id, number, scene.rng.between(0, 3)),
+        1 => event::query(8, id, scene.rng.below(8) as u16),
         2 => event::operate(8, id, &[(7, 1, 0), (number, 1, 0), (7, -1, 0)]),
         _ => event::operate(8, id, &[(number, narrow(amount), NOWAIT)]),
     };

@@ -12,7 +12,7 @@ pub static STEADY: [Kind; 5] = [
     Kind::new(
         "counts",
         Script(counts),
-        "queries alone, with eight asleep on eight operations each",
+        "queries alone, with seven asleep on eight operations each",
     ),
     Kind::new(
         "settings",
@@ -22,7 +22,7 @@ pub static STEADY: [Kind; 5] = [
     Kind::new(
         "readings",
         Script(readings),
-        "readings of a set alone, with eight asleep on eight operations each",
+        "readings of a set alone, with seven asleep on eight operations each",
     ),
     Kind::new(
         "starts",
@@ -38,38 +38,46 @@ const LONGEST: i32 = 16;
 /// The most that `settings` and `starts` set semaphore 0 to.
 const MOST: i32 = 4;
 
-/// A query judges all eight arrays to the end, and counts one.
+/// The process that stays awake and asks.
+const AWAKE: u8 = 8;
+
+/// A query judges all seven arrays to the end, and counts one.
 fn counts(scene: &mut Scene) {
-    let id = eight_asleep(scene);
-    let number = scene.rng.below(8) as u16;
-    scene.push(event::query(id, number));
+    let id = seven_asleep(scene);
+    let number = scene.rng.between(1, 7) as u16;
+    scene.push(event::query(AWAKE, id, number));
 }
 
-/// A reading judges all eight arrays to the end, and counts one at each semaphore.
+/// A reading judges all seven arrays to the end, and counts one at each semaphore but the first.
 fn readings(scene: &mut Scene) {
-    let id = eight_asleep(scene);
-    scene.push(event::read_all(id));
+    let id = seven_asleep(scene);
+    scene.push(event::read_all(AWAKE, id));
 }
 
-/// Every array names all eight semaphores and stops at its last operation, at another semaphore
-/// for each process.
-fn eight_asleep(scene: &mut Scene) -> i32 {
+/// Every array names all eight semaphores and stops at its last operation, at the semaphore of its
+/// process.
+fn seven_asleep(scene: &mut Scene) -> i32 {
     let id = scene.open_set(8).identifier;
-    for process in scene.awake() {
+    for process in sleepers(scene) {
         let mut array: Vec<Operation> = Vec::new();
         for step in 1..8 {
             array.push(((u16::from(process) + step) % 8, 1, scene.rng.pick(&[0, UNDO])));
         }
-        array.push((u16::from(process) % 8, -1, 0));
+        array.push((process.into(), -1, 0));
         scene.push(event::operate(process, id, &array));
     }
     id
 }
 
+/// Those that are to sleep and do not.
+fn sleepers(scene: &Scene) -> impl Iterator<Item = u8> {
+    scene.awake().into_iter().filter(|&process| process != AWAKE)
+}
+
 /// Every array ends by taking more from semaphore 0 than it is ever set to.
 fn settings(scene: &mut Scene) {
     let id = scene.open_set(8).identifier;
-    for process in scene.awake().into_iter().filter(|&process| process != 8) {
+    for process in sleepers(scene) {
         let mut array: Vec<Operation> = Vec::new();
         for _ in 0..3 {
             array.push((scene.rng.between(1, 7) as u16, 1, scene.rng.pick(&[0, UNDO])));
@@ -78,14 +86,14 @@ fn settings(scene: &mut Scene) {
         scene.push(event::operate(process, id, &array));
     }
     let value = scene.rng.between(0, MOST);
-    scene.push(event::set_value(id, 0, value));
+    scene.push(event::set_value(AWAKE, id, 0, value));
 }
 
 /// Every array ends by taking from the semaphore of its process. One setting in three puts one of
 /// these to 1; who is woken calls again before the next.
 fn starts(scene: &mut Scene) {
     let id = scene.open_set(8).identifier;
-    for process in scene.awake().into_iter().filter(|&process| process != 8) {
+    for process in sleepers(scene) {
         let mut array: Vec<Operation> = vec![(0, 1, scene.rng.pick(&[0, UNDO])); 3];
         array.push((process.into(), -1, 0));
         scene.push(event::operate(process, id, &array));
@@ -95,13 +103,13 @@ fn starts(scene: &mut Scene) {
         values[1 + scene.rng.below(7)] = 1;
     }
     values[0] = scene.rng.between(0, MOST);
-    scene.push(event::set_all(id, &values));
+    scene.push(event::set_all(AWAKE, id, &values));
 }
 
 /// Each time is a millisecond later. Who is ended calls again before the next.
 fn ticks(scene: &mut Scene) {
     let id = scene.open_set(8).identifier;
-    for process in scene.awake().into_iter().filter(|&process| process != 8) {
+    for process in sleepers(scene) {
         let wait = scene.rng.between(1, LONGEST) as u32;
         scene.push(event::timed_operate(process, id, wait, &[(process.into(), -1, 0)]));
     }
@@ -126,24 +134,24 @@ mod tests {
     }
 
     #[test]
-    fn a_query_counts_one_of_eight() {
+    fn a_query_counts_one_of_seven() {
         let counts_one = |answer: &Answer| match answer {
             Answer::Query(State { code: 0, for_increase, for_zero: 0, .. }) => {
                 for_increase.count_ones() == 1
             }
             _ => false,
         };
-        assert!(answers(counts, Rule::Quick, 8).iter().all(counts_one));
+        assert!(answers(counts, Rule::Quick, 7).iter().all(counts_one));
     }
 
     #[test]
-    fn a_reading_counts_one_at_each_of_eight() {
+    fn a_reading_counts_one_at_each_of_seven() {
         let one = |state: State| state.for_increase.count_ones() == 1 && state.for_zero == 0;
         let counts_one = |answer: &Answer| match answer {
-            Answer::Reading(reading) => reading.count == 8 && reading.states().all(one),
+            Answer::Reading(reading) => reading.count == 8 && reading.states().skip(1).all(one),
             _ => false,
         };
-        assert!(answers(readings, Rule::Quick, 8).iter().all(counts_one));
+        assert!(answers(readings, Rule::Quick, 7).iter().all(counts_one));
     }
 
     /// Who wakes changes semaphore 0, which all name: the six others are looked at once more.

@@ -14,7 +14,7 @@ pub fn whole(scene: &mut Scene) {
 
 /// Sleepers wait until all values are set.
 fn start(scene: &mut Scene) {
-    let asleep = scene.rng.between(2, 8) as usize;
+    let asleep = scene.rng.between(2, 7) as usize;
     fill(scene, asleep);
     let code = scene.rng.pick(&[0, 11, 34]);
     scene.seek(|answer| wakes_with(answer, code), choice::set_all);
@@ -35,8 +35,8 @@ fn at_once(scene: &mut Scene) {
     scene.push(event::operate(older, id, &array));
     let one = scene.rng.pick(&array);
     scene.push(event::operate(younger, id, &[one]));
-    scene.push(event::set_all(id, &values));
-    scene.push(event::read_all(id));
+    scene.push(event::set_all(scene.someone(), id, &values));
+    scene.push(event::read_all(scene.someone(), id));
 }
 
 /// In a set of any size some wait at the same semaphore, for increase and for zero.
@@ -50,9 +50,9 @@ fn counted(scene: &mut Scene) {
     scene.push(scene.setting(id, number, value));
     scene.push(event::operate(one, id, &[(number, 0, 0)]));
     scene.push(event::operate(other, id, &[(number, narrow(-value - 1), 0)]));
-    let asleep = scene.rng.between(2, 8) as usize;
+    let asleep = scene.rng.between(2, 7) as usize;
     fill(scene, asleep);
-    scene.push(event::read_all(id));
+    scene.push(event::read_all(scene.someone(), id));
 }
 
 /// Processes hold adjustments at all semaphores of a set. Where the setting is not refused, their
@@ -70,14 +70,14 @@ fn cleared(scene: &mut Scene) {
         scene.push(event::operate(holder, id, &array));
     }
     let setting = match scene.rng.below(4) {
-        0 => choice::refused_setting(&mut scene.rng, &target),
-        _ => event::set_all(id, &choice::values(&mut scene.rng, &target)),
+        0 => choice::refused_setting(scene, &target),
+        _ => event::set_all(scene.someone(), id, &choice::values(&mut scene.rng, &target)),
     };
     scene.push(setting);
     for holder in holders {
         scene.push(event::exit(holder));
     }
-    scene.push(event::read_all(id));
+    scene.push(event::read_all(scene.someone(), id));
 }
 
 /// A setting that is refused leaves all as it is.
@@ -85,7 +85,6 @@ fn refused(scene: &mut Scene) {
     let asleep = scene.rng.below(4);
     fill(scene, asleep);
     let target = scene.target();
-    let setting = choice::refused_setting(&mut scene.rng, &target);
-    scene.push(setting);
-    scene.push(event::read_all(target.identifier));
+    scene.add(|scene| choice::refused_setting(scene, &target));
+    scene.push(event::read_all(scene.someone(), target.identifier));
 }

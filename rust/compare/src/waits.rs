@@ -155,12 +155,13 @@ fn next(first: Sleeper, second: Sleeper) -> [(Wait, i32); 3] {
 mod tests {
     use super::*;
     use crate::line::followed;
+    use crate::scene::OPEN;
     use second::event::{clock, create, exit, operate, remove, set_value, timed_operate, Body};
     use second::run_file;
 
     /// What the events of a run show, once there are two sets.
     fn shown(bodies: &[Body]) -> Vec<Vec<(Wait, i32)>> {
-        let sets = [create(1, 255, 255), create(1, 255, 255)];
+        let sets = [create(8, 1, OPEN), create(8, 1, OPEN)];
         let mut waits = Waits::default();
         let file = run_file(&[&sets, bodies].concat());
         followed(&file, |event, line| waits.follow(event, line)).split_off(2)
@@ -223,8 +224,8 @@ mod tests {
             timed_operate(3, 0, 9, &take),
             timed_operate(4, 1, 9, &take),
             exit(3),
-            set_value(0, 0, 2),
-            remove(1),
+            set_value(8, 0, 0, 2),
+            remove(8, 1),
             clock(9),
         ];
         let wanted = [

@@ -63,13 +63,13 @@ impl Wholes {
             (Event::Create { count, .. }, 0, [identifier, ..]) => {
                 self.counts.insert(*identifier, count.into());
             }
-            (Event::Remove { identifier }, 0, _) => {
+            (Event::Remove { identifier, .. }, 0, _) => {
                 self.counts.remove(&identifier);
             }
-            (Event::SetAll { identifier, values }, ..) => {
+            (Event::SetAll { identifier, values, .. }, ..) => {
                 return self.set(identifier, values, read, line);
             }
-            (Event::ReadAll { identifier }, 0, numbers) => {
+            (Event::ReadAll { identifier, .. }, 0, numbers) => {
                 self.read = Some((identifier, numbers.iter().copied().step_by(3).collect()));
                 return shown(numbers);
             }
@@ -137,19 +137,20 @@ fn shown(numbers: &[i32]) -> Vec<(Whole, i32)> {
 mod tests {
     use super::*;
     use crate::line::followed;
+    use crate::scene::OPEN;
     use second::event::{create, operate, read_all, remove, set_all, Body};
     use second::{run_file, UNDO};
 
     /// What the last events of a run show, once a set of so many semaphores is there.
     fn shown_on(count: u8, bodies: &[Body]) -> Vec<Vec<(Whole, i32)>> {
-        let file = run_file(&[&[create(count, 255, 255)], bodies].concat());
+        let file = run_file(&[&[create(8, count, OPEN)], bodies].concat());
         let mut wholes = Wholes::default();
         followed(&file, |event, line| wholes.follow(event, line)).split_off(1)
     }
 
     #[test]
     fn numbers_of_values() {
-        let run = [0, 1, 2, 3, 4, 9, 255].map(|number| set_all(0, &vec![1; number]));
+        let run = [0, 1, 2, 3, 4, 9, 255].map(|number| set_all(8, 0, &vec![1; number]));
         let of = |number, code| (Whole::Of(number), code);
         let wanted = [
             vec![of(0, 22)],
@@ -165,7 +166,7 @@ mod tests {
 
     /// What the settings show beside their numbers of values.
     fn out_of_range(count: u8, settings: &[&[i32]]) -> Vec<Option<(Whole, i32)>> {
-        let run: Vec<Body> = settings.iter().map(|values| set_all(0, values)).collect();
+        let run: Vec<Body> = settings.iter().map(|values| set_all(8, 0, values)).collect();
         let beside_numbers = |shown: Vec<(Whole, i32)>| {
             let numbers = |kind| matches!(kind, Whole::Of(_) | Whole::AsMany | Whole::OneMore);
             shown.into_iter().find(|(kind, _)| !numbers(*kind))
@@ -197,18 +198,18 @@ mod tests {
         let up = (0, 20_000, UNDO);
         let sleep = operate(1, 0, &[up, (0, -20_000, 0), up, (1, -1, 0)]);
         let run = [
-            set_all(0, &[32_767, 0]),
+            set_all(8, 0, &[32_767, 0]),
             operate(1, 0, &[(0, -32_767, UNDO)]),
             sleep,
-            read_all(0),
-            set_all(0, &[0, 0]),
+            read_all(8, 0),
+            set_all(8, 0, &[0, 0]),
             operate(2, 0, &[(0, -1, 0)]),
             // Another event between, and then other values.
-            read_all(0),
-            remove(1),
-            set_all(0, &[0, 0]),
-            read_all(0),
-            set_all(0, &[1, 0]),
+            read_all(8, 0),
+            remove(8, 1),
+            set_all(8, 0, &[0, 0]),
+            read_all(8, 0),
+            set_all(8, 0, &[1, 0]),
         ];
         let same: Vec<(Whole, i32)> = shown_on(2, &run)
             .concat()
@@ -221,16 +222,16 @@ mod tests {
     #[test]
     fn readings() {
         let run = [
-            read_all(0),
-            set_all(0, &[0, 1]),
+            read_all(8, 0),
+            set_all(8, 0, &[0, 1]),
             operate(1, 0, &[(1, 0, 0)]),
             operate(2, 0, &[(0, -1, 0)]),
             operate(3, 0, &[(1, -2, 0)]),
-            read_all(0),
-            read_all(1),
-            remove(0),
-            read_all(0),
-            set_all(0, &[0, 1]),
+            read_all(8, 0),
+            read_all(8, 1),
+            remove(8, 0),
+            read_all(8, 0),
+            set_all(8, 0, &[0, 1]),
         ];
         let shown = shown_on(2, &run);
         assert_eq!(shown[0], [(Whole::Read, 2)]);

@@ -46,7 +46,7 @@ impl<'a> Zeros<'a> {
                     self.done(process, When::AtOnce);
                 }
             }
-            (Event::Query { identifier, number }, 0, [_, last, ..]) => {
+            (Event::Query { identifier, number, .. }, 0, [_, last, ..]) => {
                 let (slot, number) = (slot_of(identifier), usize::from(number));
                 let shows = *last != i32::from(self.without[slot][number]);
                 return shows.then_some(self.named[slot][number]);
@@ -76,6 +76,7 @@ impl<'a> Zeros<'a> {
 mod tests {
     use super::*;
     use crate::line::followed;
+    use crate::scene::OPEN;
     use second::event::{create, operate, query, remove, set_value, Body};
     use second::{run_file, NOWAIT};
 
@@ -92,16 +93,16 @@ mod tests {
     #[test]
     fn at_once() {
         let run = [
-            create(2, 255, 255),
+            create(8, 2, OPEN),
             operate(4, 0, &[(0, 0, 0), (1, 1, 0)]),
-            query(0, 0),
-            query(0, 1),
+            query(8, 0, 0),
+            query(8, 0, 1),
             // Refused: it sets no last process.
             operate(5, 0, &[(1, -2, NOWAIT)]),
-            query(0, 1),
+            query(8, 0, 1),
             // The same process: the line is the same without it.
             operate(4, 0, &[(0, 1, 0), (0, -1, 0), (0, 0, 0)]),
-            query(0, 0),
+            query(8, 0, 0),
         ];
         assert_eq!(shown(&run), [Some(When::AtOnce), None, None, None]);
     }
@@ -109,13 +110,13 @@ mod tests {
     #[test]
     fn at_waking() {
         let run = [
-            create(2, 255, 255),
-            set_value(0, 0, 1),
+            create(8, 2, OPEN),
+            set_value(8, 0, 0, 1),
             operate(2, 0, &[(1, 0, 0), (0, 0, 0)]),
-            query(0, 0),
+            query(8, 0, 0),
             operate(3, 0, &[(0, -1, 0)]),
-            query(0, 0),
-            query(0, 1),
+            query(8, 0, 0),
+            query(8, 0, 1),
         ];
         assert_eq!(shown(&run), [None, Some(When::AtWaking), Some(When::AtWaking)]);
     }
@@ -123,11 +124,11 @@ mod tests {
     #[test]
     fn each_set_by_itself() {
         let run = [
-            create(1, 255, 255),
-            create(1, 255, 255),
+            create(8, 1, OPEN),
+            create(8, 1, OPEN),
             operate(4, 1, &[(0, 0, 0)]),
-            query(0, 0),
-            query(1, 0),
+            query(8, 0, 0),
+            query(8, 1, 0),
         ];
         assert_eq!(shown(&run), [None, Some(When::AtOnce)]);
     }
@@ -135,13 +136,13 @@ mod tests {
     #[test]
     fn a_new_set_has_no_last_process() {
         let run = [
-            create(1, 255, 255),
+            create(8, 1, OPEN),
             operate(4, 0, &[(0, 1, 0)]),
-            remove(0),
-            create(1, 255, 255),
-            query(4, 0),
+            remove(8, 0),
+            create(8, 1, OPEN),
+            query(8, 4, 0),
             operate(4, 4, &[(0, 0, 0)]),
-            query(4, 0),
+            query(8, 4, 0),
         ];
         assert_eq!(shown(&run), [None, Some(When::AtOnce)]);
     }

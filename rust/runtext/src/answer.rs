@@ -168,8 +168,8 @@ mod tests {
     use super::*;
 
     const EXIT: Event = Event::Exit { process: 1 };
-    const QUERY: Event = Event::Query { identifier: 0, number: 0 };
-    const READ_ALL: Event = Event::ReadAll { identifier: 0 };
+    const QUERY: Event = Event::Query { process: 1, identifier: 0, number: 0 };
+    const READ_ALL: Event = Event::ReadAll { process: 1, identifier: 0 };
 
     #[test]
     fn lines_as_document_01_has_them() {
@@ -204,7 +204,7 @@ mod tests {
     /// The common line has as many fields as a set of one semaphore, so the event has to tell.
     #[test]
     fn the_event_tells_which_line_it_is() {
-        let set_all = Event::SetAll { identifier: 0, values: vec![] };
+        let set_all = Event::SetAll { process: 1, identifier: 0, values: vec![] };
         let report =
             Answer::Report { code: 0, position: None, value: 0, looks: 2, wakings: vec![] };
         assert_eq!(Answer::read(&set_all, "0 0 2"), Some(report));

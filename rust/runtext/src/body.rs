@@ -9,9 +9,14 @@ pub fn encode(event: &Event) -> Vec<u8> {
     let mut body = vec![event.kind().number];
     for (_, field) in event.clone().fields() {
         match field {
-            Field::Count(value) | Field::Process(value) | Field::Mask(value) => body.push(*value),
-            Field::Number(value) => body.extend_from_slice(&value.to_le_bytes()),
+            Field::Count(value) | Field::Process(value) => body.push(*value),
+            Field::Number(value) | Field::Mode(value) => {
+                body.extend_from_slice(&value.to_le_bytes());
+            }
             Field::Identifier(value) | Field::Value(value) => {
+                body.extend_from_slice(&value.to_le_bytes());
+            }
+            Field::User(value) | Field::Group(value) => {
                 body.extend_from_slice(&value.to_le_bytes());
             }
             Field::Wait(wait) => body.extend(wait.iter().flat_map(|wait| wait.to_le_bytes())),
@@ -45,9 +50,10 @@ pub fn decode(body: &[u8]) -> Result<Event, Refusal> {
     let mut event = kind.ok_or_else(unknown)?.blank.clone();
     for (_, field) in event.fields() {
         match field {
-            Field::Count(value) | Field::Process(value) | Field::Mask(value) => *value = bytes.u8(),
-            Field::Number(value) => *value = bytes.u16(),
+            Field::Count(value) | Field::Process(value) => *value = bytes.u8(),
+            Field::Number(value) | Field::Mode(value) => *value = bytes.u16(),
             Field::Identifier(value) | Field::Value(value) => *value = bytes.i32(),
+            Field::User(value) | Field::Group(value) => *value = bytes.u32(),
             Field::Wait(wait) => *wait = wait.map(|_| bytes.u32()),
             Field::Time(time) => *time = bytes.u64(),
             Field::Values(values) => *values = bytes.values(),

@@ -5,6 +5,7 @@ pub fn name(code: i32) -> String {
     let name = match code {
         -1 => "asleep",
         0 => "done",
+        1 => "EPERM",
         3 => "ESRCH",
         4 => "EINTR",
         7 => "E2BIG",

@@ -12,7 +12,9 @@ pub enum Field<'a> {
     Value(&'a mut i32),
     /// The values of a whole set.
     Values(&'a mut Vec<i32>),
-    Mask(&'a mut u8),
+    Mode(&'a mut u16),
+    User(&'a mut u32),
+    Group(&'a mut u32),
     /// Milliseconds; a call without a wait has no such field in its body.
     Wait(&'a mut Option<u32>),
     /// Milliseconds.

@@ -18,10 +18,10 @@ fn events() -> String {
     lines.map(|line| format!("{}\n", line.trim_end())).collect()
 }
 
-/// A line of the kind, with a sign for each field that it has; masks may be left out.
+/// A line of the kind, with a sign for each field that it has; a mode may be left out.
 fn form(kind: &Kind) -> String {
     let mut form = kind.word.to_string();
-    for (name, field) in kind.blank.clone().fields() {
+    for (name, field) in kind.blank.clone().in_text() {
         let sign = match field {
             Field::Count(_) => "COUNT",
             Field::Process(_) => "PROCESS",
@@ -29,14 +29,16 @@ fn form(kind: &Kind) -> String {
             Field::Number(_) => "N",
             Field::Value(_) => "V",
             Field::Values(_) => "VALUES",
-            Field::Mask(_) => "MASK",
+            Field::Mode(_) => "MODE",
+            Field::User(_) => "USER",
+            Field::Group(_) => "GROUP",
             Field::Operations(_) => "OPERATION...",
             Field::Wait(None) => continue,
             Field::Wait(_) => "WAIT",
             Field::Time(_) => "TIME",
         };
         form += &match field {
-            Field::Mask(_) => format!(" [{name}{sign}]"),
+            Field::Mode(_) => format!(" [{name}{sign}]"),
             _ => format!(" {name}{sign}"),
         };
     }
@@ -51,15 +53,17 @@ mod tests {
     fn each_event_has_a_line() {
         let text = text();
         for line in [
-            "  create COUNT [read=MASK] [alter=MASK]            a set of COUNT semaphores\n",
+            "  create COUNT by=PROCESS [mode=MODE]              a set of COUNT semaphores\n",
             "  operate PROCESS set=ID OPERATION...              all the operations, or sleep\n",
             "  operate PROCESS set=ID wait=WAIT OPERATION...    \
             the same, asleep for at most WAIT ms\n",
-            "  remove ID\n",
+            "  remove ID by=PROCESS\n",
             "  time TIME                                        tell the present time, in ms\n",
-            "  set-all ID values=VALUES                         set all values of a set at once\n",
-            "  read-all ID                                      \
+            "  set-all ID by=PROCESS values=VALUES              set all values of a set at once\n",
+            "  read-all ID by=PROCESS                           \
             all values of a set, and how many wait\n",
+            "  as PROCESS user=USER group=GROUP                 \
+            give a process a user and a group number\n",
         ] {
             assert!(text.contains(line), "{line} is not in\n{text}");
         }

@@ -2,23 +2,23 @@
 //!
 //! One event a line; blank lines are skipped, and a comment goes from `#` to the end of its line.
 //! Words are parted by blanks: the first is that of the event's kind, then come its fields in their
-//! order, some behind a name as in `set=`. A field is a number, but for operations, masks and the
+//! order, some behind a name as in `set=`. A field is a number, but for operations, a mode and the
 //! values of a whole set:
 //!
 //! ```text
 //! operation = number ":" amount ["/" flag {"," flag}]
 //! flag      = "undo" | "nowait" | "0x" hexadecimal digits
-//! mask      = "all" | "none" | process {"," process} | "0x" hexadecimal digits
+//! mode      = nine letters as in "rwxrwxrwx", each of them or "-" | octal digits
 //! values    = "none" | value {"," value}
 //! ```
 //!
-//! A mask left out is `all`, and an operate without `wait=` may sleep for ever. Numbers are decimal
-//! and go as far as their fields in the body; an amount may have a plus.
+//! A mode left out is `rw-rw-rw-`, and an operate without `wait=` may sleep for ever. Numbers are
+//! decimal and go as far as their fields in the body; an amount may have a plus.
 
 use crate::event::{Event, KINDS};
 use crate::field::Field;
-use crate::mask;
 use crate::mistake::Mistake;
+use crate::mode;
 use crate::operation::{self, NUMBER};
 use crate::runfile::{self, FILE_MAX, HEAD};
 use crate::scan::{list, Words};
@@ -29,8 +29,11 @@ const PROCESS: &str = "a process, 0 to 255";
 const IDENTIFIER: &str = "an identifier, -2147483648 to 2147483647";
 const VALUE: &str = "a value, -2147483648 to 2147483647";
 const WAIT: &str = "a wait in milliseconds, 0 to 4294967295";
+const USER: &str = "a user, 0 to 4294967295";
+const GROUP: &str = "a group, 0 to 4294967295";
 const TIME: &str = "a time in milliseconds, 0 to 18446744073709551615";
 const END: &str = "the end of the line";
+const MODE_OR_END: &str = "mode= or the end of the line";
 
 /// The events of a text, which fit into one run file.
 pub fn events(text: &[u8]) -> Result<Vec<Event>, Mistake> {
@@ -83,15 +86,16 @@ fn event(line: &str) -> Result<Option<Event>, Mistake> {
 
 /// Reads the fields of an event, and the end of its line.
 fn fill_in(event: &mut Event, words: &mut Words) -> Result<(), Mistake> {
-    // The masks that might still come where the line ends.
-    let mut left_out = Vec::new();
-    for (name, field) in event.fields() {
+    let mut end = END;
+    for (name, field) in event.in_text() {
         match field {
             Field::Count(count) => *count = words.number(name, COUNT)?,
             Field::Process(process) => *process = words.number(name, PROCESS)?,
             Field::Identifier(identifier) => *identifier = words.number(name, IDENTIFIER)?,
             Field::Number(number) => *number = words.number(name, NUMBER)?,
             Field::Value(value) => *value = words.number(name, VALUE)?,
+            Field::User(user) => *user = words.number(name, USER)?,
+            Field::Group(group) => *group = words.number(name, GROUP)?,
             Field::Time(time) => *time = words.number(name, TIME)?,
             Field::Wait(wait) => {
                 *wait = words.option(name).map(|word| word.number(WAIT)).transpose()?;
@@ -102,31 +106,21 @@ fn fill_in(event: &mut Event, words: &mut Words) -> Result<(), Mistake> {
             Field::Operations(operations) => {
                 *operations = list(&mut *words, operation::parse, "operations")?;
             }
-            Field::Mask(mask) => match words.option(name) {
-                None => left_out.push(name),
-                Some(word) => {
-                    *mask = mask::parse(word)?;
-                    left_out.clear();
-                }
+            Field::Mode(mode) => match words.option(name) {
+                Some(word) => *mode = mode::parse(word)?,
+                None => end = MODE_OR_END,
             },
         }
     }
-    left_out.push(END);
-    words.end(&one_of(&left_out))
+    words.end(end)
 }
 
+/// The words of all kinds, as in `a, b or c`.
 fn kinds() -> String {
     let mut words: Vec<&str> = KINDS.iter().map(|kind| kind.word).collect();
     words.dedup();
-    one_of(&words)
-}
-
-/// `a, b or c`.
-fn one_of(choices: &[&str]) -> String {
-    match choices {
-        [first @ .., last] if !first.is_empty() => format!("{} or {last}", first.join(", ")),
-        _ => choices.concat(),
-    }
+    let last = words.pop().unwrap_or_default();
+    format!("{} or {last}", words.join(", "))
 }
 
 #[cfg(test)]
@@ -141,15 +135,15 @@ mod tests {
     #[test]
     fn every_event_with_every_field() {
         let text = "# A comment, and a blank line.\n\n\
-            create 1 read=all alter=none # here too\r\n\
-            \tcreate 255 alter=1,8\n\
+            \tsignal 0 # here too\r\n\
             operate 1 set=0 0:-1 1:+3/undo 2:0/nowait,undo#\n\
             operate 255 set=-2147483648\n\
             operate 2 set=4 wait=0 0:-1\noperate 0 set=-1 wait=4294967295\n\
             time 0\ntime 18446744073709551615\n\
-            set 2147483647 number=65535 value=-2147483648\n\
-            remove -1\nsignal 0\nexit 9\nquery 4 number=7\n\
-            set-all -4 values=1,-2147483648,32768\nset-all 0 values=none\nread-all 5";
+            set 2147483647 by=3 number=65535 value=-2147483648\n\
+            remove -1 by=4\nexit 9\nquery 4 by=5 number=7\n\
+            set-all -4 by=6 values=1,-2147483648,32768\nset-all 0 by=7 values=none\n\
+            read-all 5 by=8";
         let operation = |number, amount, flags| Operation { number, amount, flags };
         let operate = |process, identifier, wait, operations| Event::Operate {
             process,
@@ -160,22 +154,34 @@ mod tests {
         let operations =
             vec![operation(0, -1, 0), operation(1, 3, UNDO), operation(2, 0, NOWAIT | UNDO)];
         let wanted = [
-            Event::Create { count: 1, read: 0xFF, alter: 0 },
-            Event::Create { count: 255, read: 0xFF, alter: 0x81 },
+            Event::Signal { process: 0 },
             operate(1, 0, None, operations),
             operate(255, i32::MIN, None, vec![]),
             operate(2, 4, Some(0), vec![operation(0, -1, 0)]),
             operate(0, -1, Some(u32::MAX), vec![]),
             Event::Clock { time: 0 },
             Event::Clock { time: u64::MAX },
-            Event::SetValue { identifier: i32::MAX, number: 65_535, value: i32::MIN },
-            Event::Remove { identifier: -1 },
-            Event::Signal { process: 0 },
+            Event::SetValue { process: 3, identifier: i32::MAX, number: 65_535, value: i32::MIN },
+            Event::Remove { process: 4, identifier: -1 },
             Event::Exit { process: 9 },
-            Event::Query { identifier: 4, number: 7 },
-            Event::SetAll { identifier: -4, values: vec![1, i32::MIN, 32_768] },
-            Event::SetAll { identifier: 0, values: vec![] },
-            Event::ReadAll { identifier: 5 },
+            Event::Query { process: 5, identifier: 4, number: 7 },
+            Event::SetAll { process: 6, identifier: -4, values: vec![1, i32::MIN, 32_768] },
+            Event::SetAll { process: 7, identifier: 0, values: vec![] },
+            Event::ReadAll { process: 8, identifier: 5 },
+        ];
+        assert_eq!(events(text.as_bytes()).as_deref(), Ok(&wanted[..]));
+    }
+
+    #[test]
+    fn modes_users_and_groups() {
+        let text = "create 1 by=2 mode=rw-r----x\ncreate 255 by=0\ncreate 0 by=255 mode=177777\n\
+            as 3 user=7 group=9\nas 255 user=4294967295 group=0";
+        let wanted = [
+            Event::Create { process: 2, count: 1, mode: 0o641 },
+            Event::Create { process: 0, count: 255, mode: 0o666 },
+            Event::Create { process: 255, count: 0, mode: u16::MAX },
+            Event::ActAs { process: 3, user: 7, group: 9 },
+            Event::ActAs { process: 255, user: u32::MAX, group: 0 },
         ];
         assert_eq!(events(text.as_bytes()).as_deref(), Ok(&wanted[..]));
     }
@@ -189,9 +195,9 @@ mod tests {
 
     #[test]
     fn mistakes_have_line_column_and_what_was_expected() {
-        let kinds = "create, operate, set, remove, signal, exit, query, time, set-all or read-all";
+        let kinds =
+            "create, operate, set, remove, signal, exit, query, time, set-all, read-all or as";
         let amount = "an amount, -32768 to 32767";
-        let masks = "read=, alter= or the end of the line";
         let number = format!("number= with {NUMBER}");
         let value = format!("value= with {VALUE}");
         let end = "the end of the line";
@@ -203,16 +209,58 @@ mod tests {
             ("remove 2147483648", "1:8", IDENTIFIER, "'2147483648'"),
             ("exit 1 2", "1:8", END, "'2'"),
             ("signal -1", "1:8", PROCESS, "'-1'"),
-            ("set 0 nr=1 value=2", "1:7", &number, "'nr=1'"),
-            ("set 0 number=1", "1:15", &value, end),
-            ("query 0 number=", "1:16", NUMBER, "nothing"),
+            ("set 0 by=1 nr=1 value=2", "1:12", &number, "'nr=1'"),
+            ("set 0 by=1 number=1", "1:20", &value, end),
+            ("query 0 by=1 number=", "1:21", NUMBER, "nothing"),
             ("create 256", "1:8", COUNT, "'256'"),
-            ("create 1 alter=1 read=1", "1:18", END, "'read=1'"),
-            ("create 1 all", "1:10", masks, "'all'"),
             ("setall 0 values=1", "1:1", kinds, "'setall'"),
             ("read-all", "1:9", IDENTIFIER, end),
-            ("read-all 0 number=1", "1:12", END, "'number=1'"),
+            ("read-all 0 by=1 number=1", "1:17", END, "'number=1'"),
             ("exit 1\n\u{1}", "2:1", kinds, "'\\u{1}'"),
+        ]);
+    }
+
+    /// The caller stands right behind the first field, and may not be left out.
+    #[test]
+    fn mistakes_in_who_asks() {
+        let by = format!("by= with {PROCESS}");
+        let end = "the end of the line";
+        have_mistakes(&[
+            ("create 1", "1:9", &by, end),
+            ("create 1 mode=640", "1:10", &by, "'mode=640'"),
+            ("create by=1 1", "1:8", COUNT, "'by=1'"),
+            ("set 0 number=1 value=2", "1:7", &by, "'number=1'"),
+            ("set 0 number=1 value=2 by=1", "1:7", &by, "'number=1'"),
+            ("remove 0 1", "1:10", &by, "'1'"),
+            ("query 0 number=1", "1:9", &by, "'number=1'"),
+            ("set-all 0 values=1", "1:11", &by, "'values=1'"),
+            ("read-all 0", "1:11", &by, end),
+            ("read-all 0 by=", "1:15", PROCESS, "nothing"),
+            ("read-all 0 by=256", "1:15", PROCESS, "'256'"),
+            ("operate 1 by=1 set=0 0:-1", "1:11", &format!("set= with {IDENTIFIER}"), "'by=1'"),
+            ("signal 1 by=2", "1:10", END, "'by=2'"),
+        ]);
+    }
+
+    #[test]
+    fn mistakes_in_modes_users_and_groups() {
+        let mode = "a mode as in rw-r----- or 640, 0 to 177777";
+        let user = format!("user= with {USER}");
+        let group = format!("group= with {GROUP}");
+        have_mistakes(&[
+            ("create 1 by=1 rw-r-----", "1:15", MODE_OR_END, "'rw-r-----'"),
+            ("create 1 by=1 mode=rw-", "1:20", mode, "'rw-'"),
+            ("create 1 by=1 mode=", "1:20", mode, "nothing"),
+            ("create 1 by=1 mode=680", "1:20", mode, "'680'"),
+            ("create 1 by=1 mode=200000", "1:20", mode, "'200000'"),
+            ("create 1 by=1 mode=640 2", "1:24", END, "'2'"),
+            ("create 1 by=1 read=all", "1:15", MODE_OR_END, "'read=all'"),
+            ("as", "1:3", PROCESS, "the end of the line"),
+            ("as 3 group=9 user=7", "1:6", &user, "'group=9'"),
+            ("as 3 user=7", "1:12", &group, "the end of the line"),
+            ("as 3 user=-1 group=9", "1:11", USER, "'-1'"),
+            ("as 3 user=7 group=4294967296", "1:19", GROUP, "'4294967296'"),
+            ("as 3 user=7 group=9 by=1", "1:21", END, "'by=1'"),
         ]);
     }
 
@@ -241,13 +289,13 @@ mod tests {
     fn mistakes_in_the_values_of_a_set() {
         let named = format!("values= with {}", values::EXPECTED);
         have_mistakes(&[
-            ("set-all 0", "1:10", &named, "the end of the line"),
-            ("set-all 0 1,0,5", "1:11", &named, "'1,0,5'"),
+            ("set-all 0 by=1", "1:15", &named, "the end of the line"),
+            ("set-all 0 by=1 1,0,5", "1:16", &named, "'1,0,5'"),
             ("set-all values=1", "1:9", IDENTIFIER, "'values=1'"),
-            ("set-all 0 values=", "1:18", values::EXPECTED, "nothing"),
-            ("set-all 0 values=1,x", "1:20", values::EXPECTED, "'x'"),
-            ("set-all 0 values=1, 2", "1:20", values::EXPECTED, "nothing"),
-            ("set-all 0 values=1 2", "1:20", END, "'2'"),
+            ("set-all 0 by=1 values=", "1:23", values::EXPECTED, "nothing"),
+            ("set-all 0 by=1 values=1,x", "1:25", values::EXPECTED, "'x'"),
+            ("set-all 0 by=1 values=1, 2", "1:25", values::EXPECTED, "nothing"),
+            ("set-all 0 by=1 values=1 2", "1:25", END, "'2'"),
         ]);
     }
 
@@ -260,13 +308,13 @@ mod tests {
     #[test]
     fn as_many_operations_and_values_as_a_body_holds() {
         let operate = |operations| format!("operate 1 set=0{}", " 0:0".repeat(operations));
-        let set_all = |values: usize| format!("set-all 0 values=7{}", ",7".repeat(values - 1));
+        let set_all = |values: usize| format!("set-all 0 by=1 values=7{}", ",7".repeat(values - 1));
         for line in [operate(255), set_all(255)] {
             assert!(events(line.as_bytes()).is_ok());
         }
         let wanted = "1:1037: expected the end of the line after 255 operations, found '0:0'";
         assert_eq!(mistake(&operate(256)), wanted);
-        let wanted = "1:528: expected the end of the line after 255 values, found '7'";
+        let wanted = "1:533: expected the end of the line after 255 values, found '7'";
         assert_eq!(mistake(&set_all(256)), wanted);
     }
 

@@ -2,7 +2,7 @@
 
 use crate::event::Event;
 use crate::field::Field;
-use crate::mask;
+use crate::mode;
 use crate::values;
 
 /// A line for each event; `parse::events` reads the same events from it.
@@ -12,7 +12,7 @@ pub fn text(events: &[Event]) -> String {
 
 fn line(event: &Event) -> String {
     let mut line = event.kind().word.to_string();
-    for (name, field) in event.clone().fields() {
+    for (name, field) in event.clone().in_text() {
         for word in words(field) {
             line += &format!(" {name}{word}");
         }
@@ -28,7 +28,8 @@ fn words(field: Field) -> Vec<String> {
         Field::Number(value) => vec![value.to_string()],
         Field::Identifier(value) | Field::Value(value) => vec![value.to_string()],
         Field::Values(values) => vec![values::name(values)],
-        Field::Mask(mask) => vec![mask::name(*mask)],
+        Field::Mode(mode) => vec![mode::name(*mode)],
+        Field::User(value) | Field::Group(value) => vec![value.to_string()],
         Field::Wait(wait) => wait.iter().map(ToString::to_string).collect(),
         Field::Time(time) => vec![time.to_string()],
         Field::Operations(operations) => operations.iter().map(ToString::to_string).collect(),

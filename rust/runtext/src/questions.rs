@@ -1,62 +1,60 @@
-//! Readings put in behind the events of a run. They change nothing, so their answers show what the
-//! host holds after each event.
+//! Readings put in behind the events of a run. They leave the host as it was, so their answers show
+//! what it holds after each event.
 
-use std::collections::BTreeSet;
 use std::ops::Range;
 
 use crate::answer::Answer;
 use crate::event::Event;
+use crate::known::Known;
+use crate::owners::Numbers;
 use crate::runfile::{self, FILE_MAX, HEAD};
 
-/// A reading of a set behind the event at this position.
-#[derive(Clone, Debug, PartialEq, Eq)]
-pub struct Question {
-    pub behind: usize,
-    pub identifier: i32,
-}
-
-impl Question {
-    pub fn event(&self) -> Event {
-        Event::ReadAll { identifier: self.identifier }
-    }
-}
-
-/// A question for each set that is live after each event. The answers to create and remove tell
-/// which are.
-pub fn all(events: &[Event], answers: &[Answer]) -> Vec<Question> {
-    let mut live = BTreeSet::new();
-    let mut questions = Vec::new();
-    for (behind, pair) in events.iter().zip(answers).enumerate() {
-        match pair {
-            (Event::Create { .. }, Answer::Report { code: 0, value, .. }) => {
-                live.insert(*value);
-            }
-            (Event::Remove { identifier }, Answer::Report { code: 0, .. }) => {
-                live.remove(identifier);
-            }
-            _ => {}
-        }
-        questions.extend(live.iter().map(|&identifier| Question { behind, identifier }));
+/// What is asked behind each event.
+pub fn all(events: &[Event], answers: &[Answer]) -> Vec<Vec<Event>> {
+    let mut known = Known::default();
+    let mut questions = Vec::with_capacity(events.len());
+    for (event, answer) in events.iter().zip(answers) {
+        known.note(event, answer);
+        questions.push(readings(&known));
     }
     questions
 }
 
-/// Parts of the questions that fit into one run file each, together with all the events up to
-/// their last one. Questions for which there is no room at all are in no part.
-pub fn parts(events: &[Event], questions: &[Question]) -> Vec<Range<usize>> {
+/// A reading of each live set, by a process that is awake and user 0. Where nobody awake is, one is
+/// made user 0 before them, and gets its numbers back behind them. Where all sleep, nobody can ask.
+fn readings(known: &Known) -> Vec<Event> {
+    let process = match known.awake() {
+        Some(process) => process,
+        None => return Vec::new(),
+    };
+    let read = |identifier| Event::ReadAll { process, identifier };
+    let mut readings: Vec<Event> = known.owners.live().map(read).collect();
+    let Numbers { user, group } = known.owners.numbers(process);
+    if user != 0 && !readings.is_empty() {
+        readings.insert(0, Event::ActAs { process, user: 0, group });
+        readings.push(Event::ActAs { process, user, group });
+    }
+    readings
+}
+
+/// Parts of the run whose questions fit into one run file each, together with all the events up to
+/// their last one. Behind the last part there is no room.
+pub fn parts(events: &[Event], questions: &[Vec<Event>]) -> Vec<Range<usize>> {
     let mut ends = Vec::with_capacity(events.len());
     let mut end = HEAD;
     for event in events {
         end += runfile::size(event);
         ends.push(end);
     }
-    let size = questions.first().map_or(0, |question| runfile::size(&question.event()));
     let mut parts = Vec::new();
     let mut first = 0;
-    while first < questions.len() {
-        let fits =
-            |&last: &usize| ends[questions[last].behind] + size * (last + 1 - first) <= FILE_MAX;
-        let part = first..first + (first..questions.len()).take_while(fits).count();
+    while first < events.len() {
+        let mut asked = 0;
+        let fits = |&position: &usize| {
+            asked += questions[position].iter().map(runfile::size).sum::<usize>();
+            ends[position] + asked <= FILE_MAX
+        };
+        let part = first..first + (first..events.len()).take_while(fits).count();
         if part.is_empty() {
             break;
         }
@@ -66,16 +64,12 @@ pub fn parts(events: &[Event], questions: &[Question]) -> Vec<Range<usize>> {
     parts
 }
 
-/// The events up to the last question's, each with the questions behind it.
-pub fn extended(events: &[Event], questions: &[Question]) -> Vec<Event> {
-    let last = questions.last().map_or(0, |question| question.behind);
-    let mut extended = Vec::new();
-    let mut questions = questions.iter().peekable();
-    for (position, event) in events[..=last].iter().enumerate() {
-        extended.push(event.clone());
-        while let Some(question) = questions.next_if(|question| question.behind == position) {
-            extended.push(question.event());
-        }
+/// The events up to the part's last one, those of the part with their questions behind them.
+pub fn extended(events: &[Event], questions: &[Vec<Event>], part: Range<usize>) -> Vec<Event> {
+    let mut extended = events[..part.start].to_vec();
+    for position in part {
+        extended.push(events[position].clone());
+        extended.extend_from_slice(&questions[position]);
     }
     extended
 }
@@ -83,48 +77,86 @@ pub fn extended(events: &[Event], questions: &[Question]) -> Vec<Event> {
 #[cfg(test)]
 mod tests {
     use super::*;
+    use crate::{parse, print};
 
     fn report(code: i32, value: i32) -> Answer {
         Answer::Report { code, position: None, value, looks: 0, wakings: vec![] }
     }
 
+    /// What is asked behind the events of a text, each of which has the code and the value beside it.
+    fn asked(lines: &[(&str, i32, i32)]) -> Vec<String> {
+        let text: String = lines.iter().map(|(line, ..)| format!("{line}\n")).collect();
+        let events = parse::events(text.as_bytes()).expect("events");
+        let answers: Vec<Answer> =
+            lines.iter().map(|(_, code, value)| report(*code, *value)).collect();
+        all(&events, &answers).iter().map(|questions| print::text(questions)).collect()
+    }
+
     /// Creates of which the last one finds no slot, then a removal.
     #[test]
     fn the_answers_tell_which_sets_are_live() {
-        let create = Event::Create { count: 1, read: 0, alter: 0 };
-        let remove = |identifier| Event::Remove { identifier };
-        let events = [create.clone(), create.clone(), create, remove(1), remove(0)];
-        let answers = [report(0, 0), report(0, 1), report(28, 0), report(22, 0), report(0, 0)];
-        let asked = |behind| {
-            let questions = all(&events, &answers).into_iter();
-            let there = questions.filter(move |question| question.behind == behind);
-            there.map(|question| question.identifier).collect::<Vec<_>>()
-        };
-        assert_eq!(asked(0), [0]);
-        assert_eq!(asked(1), [0, 1]);
-        assert_eq!(asked(3), [0, 1]);
-        assert_eq!(asked(4), [1]);
+        let asked = asked(&[
+            ("create 1 by=2", 0, 0),
+            ("create 1 by=2", 0, 1),
+            ("create 1 by=2", 28, 0),
+            ("remove 1 by=2", 1, 0),
+            ("remove 0 by=2", 0, 0),
+            ("remove 1 by=2", 0, 0),
+        ]);
+        let both = "read-all 0 by=1\nread-all 1 by=1\n";
+        assert_eq!(asked, ["read-all 0 by=1\n", both, both, both, "read-all 1 by=1\n", ""]);
+    }
+
+    /// Process 1 sleeps and 2 is another user, so process 3 asks.
+    #[test]
+    fn who_asks_is_awake_and_user_0() {
+        let asked = asked(&[
+            ("as 2 user=7 group=0", 0, 0),
+            ("create 1 by=1", 0, 0),
+            ("operate 1 set=0 0:-1", -1, 0),
+            ("exit 1", 0, 0),
+        ]);
+        assert_eq!(asked, ["", "read-all 0 by=1\n", "read-all 0 by=3\n", "read-all 0 by=1\n"]);
+    }
+
+    /// Process 2 is the first awake, and has its numbers back behind the readings.
+    #[test]
+    fn where_nobody_is_user_0_one_becomes_it() {
+        let mut lines: Vec<(String, i32)> =
+            (1..=8).map(|process| (format!("as {process} user={process} group=9"), 0)).collect();
+        lines.push(("create 1 by=8".to_string(), 0));
+        lines.push(("operate 1 set=0 0:-1".to_string(), -1));
+        let lines: Vec<_> = lines.iter().map(|(line, code)| (&line[..], *code, 0)).collect();
+        let wanted = "as 2 user=0 group=9\nread-all 0 by=2\nas 2 user=2 group=9\n";
+        assert_eq!(asked(&lines)[9], wanted);
+        assert_eq!(asked(&lines)[7], "");
+    }
+
+    #[test]
+    fn where_all_sleep_nobody_asks() {
+        let sleeps = |process| (format!("operate {process} set=0 0:-1"), -1);
+        let mut lines = vec![("create 1 by=1".to_string(), 0)];
+        lines.extend((1..=8).map(sleeps));
+        lines.push(("signal 9".to_string(), 3));
+        lines.push(("exit 5".to_string(), 0));
+        let lines: Vec<_> = lines.iter().map(|(line, code)| (&line[..], *code, 0)).collect();
+        let wanted = ["read-all 0 by=8\n", "", "", "read-all 0 by=5\n"];
+        assert_eq!(asked(&lines)[7..], wanted);
     }
 
     /// A full file leaves no room behind its last events, and each part fits.
     #[test]
     fn parts_fill_run_files() {
-        let mut events = vec![Event::Create { count: 1, read: 0, alter: 0 }];
-        let mut answers = vec![report(0, 0)];
-        while HEAD + 6 * (events.len() + 1) + 2 <= FILE_MAX {
-            events.push(Event::Exit { process: 1 });
-            answers.push(report(0, 0));
-        }
-        let questions = all(&events, &answers);
-        let parts = parts(&events, &questions);
+        let text = format!("create 1 by=1\n{}", "exit 1\n".repeat(10_920));
+        let events = parse::events(text.as_bytes()).expect("as many as a file holds");
+        let questions = all(&events, &vec![report(0, 0); events.len()]);
         let mut first = 0;
-        for part in &parts {
+        for part in parts(&events, &questions) {
             assert_eq!(part.start, first);
-            let file = runfile::write(&extended(&events, &questions[part.clone()]));
-            assert!(file.len() <= FILE_MAX);
             first = part.end;
+            assert!(runfile::write(&extended(&events, &questions, part)).len() <= FILE_MAX);
         }
         let room = FILE_MAX - runfile::write(&events).len();
-        assert!(room < 6 && first < questions.len() && questions.len() - first <= 2);
+        assert!(room < 6 && first < events.len() && events.len() - first <= 2);
     }
 }

@@ -100,20 +100,21 @@ mod tests {
 
     #[test]
     fn each_refusal_has_its_code_and_says_where() {
-        let good = write(&[Event::Exit { process: 1 }, Event::Remove { identifier: 4 }]);
+        let good =
+            write(&[Event::Exit { process: 1 }, Event::Remove { process: 1, identifier: 4 }]);
         assert_eq!(words(&good[..1]), "bad 201: the head is cut off: 1 bytes of 2");
         let cut = "bad 201: the table is cut off: 2 events need 10 bytes, the file has 9";
         assert_eq!(words(&good[..9]), cut);
         assert_eq!(words(&[0; 65_536]), "bad 201: over 65535 bytes");
-        assert_eq!(words(&good[..16]), "bad 202: the last body ends at 17, the file at 16");
+        assert_eq!(words(&good[..17]), "bad 202: the last body ends at 18, the file at 17");
         let edited = |place: usize, byte: u8| {
             let mut file = good.clone();
             file[place] = byte;
             words(&file)
         };
         assert_eq!(edited(6, 13), "bad 202: event 1: its offset is 13, not 12");
-        assert_eq!(edited(12, 12), "bad 203: event 1: there is no kind 12");
-        let length = "bad 204: event 1: a body of kind 7 has 7 bytes here, not 5";
+        assert_eq!(edited(12, 13), "bad 203: event 1: there is no kind 13");
+        let length = "bad 204: event 1: a body of kind 7 has 8 bytes here, not 6";
         assert_eq!(edited(12, 7), length);
         assert_eq!(words(&[1, 0, 6, 0, 0, 0]), "bad 204: event 0: the body is empty");
     }
@@ -137,12 +138,15 @@ mod tests {
             (&[9], 9),
             (&[9, 0, 0, 0, 0, 0, 0, 0], 9),
             (&[9, 0, 0, 0, 0, 0, 0, 0, 0, 0], 9),
-            (&[10, 0, 0, 0, 0], 6),
-            (&[10, 0, 0, 0, 0, 0, 0], 6),
-            (&[10, 0, 0, 0, 0, 2, 1, 0, 0, 0], 14),
-            (&[10, 0, 0, 0, 0, 255], 1_026),
-            (&[11, 0, 0, 0, 0, 0], 5),
-            (&[11, 0, 0, 0], 5),
+            (&[10, 1, 0, 0, 0, 0], 7),
+            (&[10, 1, 0, 0, 0, 0, 0, 0], 7),
+            (&[10, 1, 0, 0, 0, 0, 2, 1, 0, 0, 0], 15),
+            (&[10, 1, 0, 0, 0, 0, 255], 1_027),
+            (&[11, 1, 0, 0, 0, 0, 0], 6),
+            (&[11, 1, 0, 0, 0], 6),
+            (&[12], 10),
+            (&[12, 1, 0, 0, 0, 0, 0, 0, 0], 10),
+            (&[12, 1, 0, 0, 0, 0, 0, 0, 0, 0, 0], 10),
         ] {
             let (kind, length) = (body[0], body.len());
             let wanted = format!("a body of kind {kind} has {wanted} bytes here, not {length}");
@@ -150,9 +154,26 @@ mod tests {
         }
     }
 
+    /// A create with two masks, and the others that had no caller.
+    #[test]
+    fn bodies_without_a_caller_have_the_wrong_length() {
+        for body in [
+            &[1, 1, 255, 255][..],
+            &[3, 0, 0, 0, 0, 1, 0, 5, 0, 0, 0],
+            &[4, 0, 0, 0, 0],
+            &[7, 0, 0, 0, 0, 1, 0],
+            &[10, 0, 0, 0, 0, 0],
+            &[10, 0, 0, 0, 0, 2, 5, 0, 0, 0, 5, 0, 0, 0],
+            &[11, 0, 0, 0, 0],
+        ] {
+            let refused = words(&alone(body));
+            assert!(refused.starts_with("bad 204: event 0: a body of kind "), "{refused}");
+        }
+    }
+
     #[test]
     fn kinds_before_and_behind_are_unknown() {
-        for kind in [0, 12, 255] {
+        for kind in [0, 13, 255] {
             let wanted = format!("bad 203: event 0: there is no kind {kind}");
             assert_eq!(words(&alone(&[kind, 0, 0, 0, 0])), wanted);
         }

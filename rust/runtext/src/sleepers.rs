@@ -18,20 +18,29 @@ pub struct Call<'a> {
 
 #[derive(Default)]
 pub struct Sleepers<'a> {
-    /// By process the last call that went to sleep, which is the one that a waking ends.
+    /// By process the call that it sleeps on.
     calls: BTreeMap<u8, Call<'a>>,
     /// The time told last; a refused one isn't told.
     pub time: u64,
 }
 
 impl<'a> Sleepers<'a> {
-    /// Keeps the call of an operate that is answered with sleep, and the time that is accepted.
+    /// Keeps the call of an operate that is answered with sleep until a waking or an exit ends it,
+    /// and the time that is accepted.
     pub fn note(&mut self, event: &'a Event, answer: &Answer) {
+        if let Answer::Report { wakings, .. } = answer {
+            for waking in wakings {
+                self.calls.remove(&waking.process);
+            }
+        }
         match (event, answer.code()) {
             (Event::Operate { process, identifier, wait, operations }, -1) => {
                 let (identifier, wait) = (*identifier, *wait);
                 let call = Call { identifier, operations, start: self.time, wait };
                 self.calls.insert(*process, call);
+            }
+            (Event::Exit { process }, 0) => {
+                self.calls.remove(process);
             }
             (Event::Clock { time }, 0) => self.time = *time,
             _ => {}
@@ -76,14 +85,18 @@ mod tests {
     }
 
     #[test]
-    fn the_last_call_that_sleeps_is_kept() {
+    fn a_call_is_kept_while_it_sleeps() {
         let events = events(
             "operate 1 set=0 0:-1\nexit 1\noperate 1 set=4 0:-2 1:0\noperate 1 set=4 0:-3\n",
         );
-        let sleepers = asleep(&events, [-1, 0, -1, 16]);
+        let mut sleepers = asleep(&events, [-1, 0, -1, 16]);
         let call = sleepers.call(1).expect("it sleeps");
         assert_eq!((call.identifier, call.operations.len()), (4, 2));
         assert_eq!(sleepers.call(2), None);
+        assert_eq!(asleep(&events[..2], [-1, 0, 0, 0]).call(1), None);
+        let woken = Answer::read(&events[1], "0 0 1 1=0").expect("a line");
+        sleepers.note(&events[1], &woken);
+        assert_eq!(sleepers.call(1), None);
     }
 
     /// A time that is refused is not told.

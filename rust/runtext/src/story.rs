@@ -1,15 +1,17 @@
 //! A replay as a story. Every answer in it is the program's own, and every value is, or is a sum of
 //! such a value and the amounts of operations.
 
+use std::ops::Range;
+
 use crate::answer::Answer;
 use crate::codes;
 use crate::count::counted;
 use crate::event::Event;
+use crate::known::Known;
 use crate::program::{Program, Replay};
-use crate::questions::{self, Question};
+use crate::questions;
 use crate::runfile;
-use crate::scene::Scene;
-use crate::sleepers::Sleepers;
+use crate::scene::{Scene, Set};
 
 /// The story of a run file, good or bad.
 pub fn tell(program: &Program, file: &[u8]) -> Result<String, String> {
@@ -23,11 +25,14 @@ pub fn tell(program: &Program, file: &[u8]) -> Result<String, String> {
     let mut scenes = scenes(events, lines)?;
     ask(program, &mut scenes)?;
     let mut story = counted(scenes.len() as u32, "event") + "\n";
-    let mut sleepers = Sleepers::default();
+    let mut known = Known::default();
+    let mut before: &[Set] = &[];
     for (position, scene) in scenes.iter().enumerate() {
         story += "\n";
-        story += &scene.tell(position, &sleepers);
-        sleepers.note(&scene.event, &scene.answer);
+        story += &scene.tell(position, &known, before);
+        known.note(&scene.event, &scene.answer);
+        story += &scene.tell_after(&known);
+        before = &scene.sets;
     }
     Ok(story)
 }
@@ -48,35 +53,32 @@ fn ask(program: &Program, scenes: &mut [Scene]) -> Result<(), String> {
     let events: Vec<Event> = scenes.iter().map(|scene| scene.event.clone()).collect();
     let answers: Vec<Answer> = scenes.iter().map(|scene| scene.answer.clone()).collect();
     let questions = questions::all(&events, &answers);
-    let mut asked = 0;
     for part in questions::parts(&events, &questions) {
-        asked = part.end;
-        let part = &questions[part];
-        let extended = questions::extended(&events, part);
+        let extended = questions::extended(&events, &questions, part.clone());
         match program.replay(&runfile::write(&extended))? {
             Replay::Refused(code) => return Err(format!("bad {code} for a run with readings")),
-            Replay::Lines(lines) => note(scenes, part, &lines)?,
+            Replay::Lines(lines) => note(scenes, &questions, part, &lines)?,
         }
-    }
-    for question in &questions[asked..] {
-        scenes[question.behind].cut = true;
     }
     Ok(())
 }
 
-/// Takes the answers to the questions; every other answer has to be what it was without them.
-fn note(scenes: &mut [Scene], questions: &[Question], lines: &[String]) -> Result<(), String> {
+/// Takes the answers to a part's questions; every other answer has to be what it was without them.
+fn note(
+    scenes: &mut [Scene],
+    questions: &[Vec<Event>],
+    part: Range<usize>,
+    lines: &[String],
+) -> Result<(), String> {
     let mut lines = lines.iter();
-    let mut questions = questions.iter().peekable();
-    for (position, scene) in scenes.iter_mut().enumerate() {
-        if questions.peek().is_none() {
-            break;
-        }
+    for (position, scene) in scenes[..part.end].iter_mut().enumerate() {
         if lines.next() != Some(&scene.line) {
             return Err(format!("event {position} has another answer where readings are put in"));
         }
-        while let Some(question) = questions.next_if(|question| question.behind == position) {
-            scene.note(question, lines.next())?;
+        if part.contains(&position) {
+            for question in &questions[position] {
+                scene.note(question, lines.next())?;
+            }
         }
     }
     match lines.next() {
@@ -88,37 +90,40 @@ fn note(scenes: &mut [Scene], questions: &[Question], lines: &[String]) -> Resul
 #[cfg(test)]
 mod tests {
     use super::*;
+    use crate::parse;
 
-    /// A create and a query, and the lines of a run with a question behind the create.
+    /// A create and a query, and the lines of a run with questions behind the create: a reading by
+    /// a process that is user 0 for it.
     fn noted(lines: &[&str]) -> Result<Vec<Scene>, String> {
-        let events = vec![
-            Event::Create { count: 1, read: 0, alter: 0 },
-            Event::Query { identifier: 0, number: 0 },
-        ];
+        let event = |line: &str| parse::events(line.as_bytes()).expect("an event").remove(0);
+        let events = vec![event("create 1 by=1"), event("query 0 by=1 number=0")];
         let mut scenes = scenes(events, vec!["0 0 0".to_string(), "0 0 0 0 0".to_string()])?;
-        let questions = [Question { behind: 0, identifier: 0 }];
+        let questions = ["as 1 user=0 group=9", "read-all 0 by=1", "as 1 user=7 group=9"];
+        let questions = [questions.map(event).to_vec(), vec![]];
         let lines: Vec<String> = lines.iter().map(|line| line.to_string()).collect();
-        note(&mut scenes, &questions, &lines)?;
+        note(&mut scenes, &questions, 0..1, &lines)?;
         Ok(scenes)
     }
 
     #[test]
     fn answers_to_questions_are_kept() {
-        let scenes = noted(&["0 0 0", "0 7 1 0"]).expect("the same answers");
-        let told = |position: usize| scenes[position].tell(position, &Sleepers::default());
+        let scenes = noted(&["0 0 0", "0 0 0", "0 7 1 0", "0 0 0"]).expect("the same answers");
+        let told = |scene: &Scene| scene.tell_after(&Known::default());
         let wanted =
             "  values  set 0: 7\n  waits   set 0, semaphore 0: 1 for increase, 0 for zero\n";
-        assert!(told(0).ends_with(wanted), "{}", told(0));
-        assert!(told(1).ends_with("  values  no live set\n"), "{}", told(1));
+        assert_eq!(told(&scenes[0]), wanted);
+        assert_eq!(told(&scenes[1]), "  values  no live set\n");
     }
 
-    /// The program may not answer the events of the run otherwise because of the questions.
+    /// The program may not answer the events of the run otherwise because of the questions, nor
+    /// refuse these.
     #[test]
     fn other_answers_are_noticed() {
-        assert!(noted(&["0 1 0", "0 7 1 0"]).is_err());
-        assert!(noted(&["0 0 0"]).is_err());
-        assert!(noted(&["0 0 0", "0 0 0"]).is_err());
-        assert!(noted(&["0 0 0", "22"]).is_err());
-        assert!(noted(&["0 0 0", "0 7 1 0", "0 0 0 0 0"]).is_err());
+        assert!(noted(&["0 1 0", "0 0 0", "0 7 1 0", "0 0 0"]).is_err());
+        assert!(noted(&["0 0 0", "16 0 0", "0 7 1 0", "0 0 0"]).is_err());
+        assert!(noted(&["0 0 0", "0 0 0", "13", "0 0 0"]).is_err());
+        assert!(noted(&["0 0 0", "0 0 0", "0 0 0", "0 0 0"]).is_err());
+        assert!(noted(&["0 0 0", "0 0 0", "0 7 1 0"]).is_err());
+        assert!(noted(&["0 0 0", "0 0 0", "0 7 1 0", "0 0 0", "0 0 0 0 0"]).is_err());
     }
 }

@@ -1,7 +1,7 @@
 //! Answers in words.
 
 use crate::answer::{Answer, Semaphore, Waits, Waking};
-use crate::codes::{self, GAVE_UP, OUT_OF_RANGE};
+use crate::codes;
 use crate::count::counted;
 use crate::event::Event;
 
@@ -67,9 +67,11 @@ fn coded(code: i32, position: Option<usize>, why: Option<String>, meaning: Optio
         words += &format!(" at operation {position}");
     }
     match (why, meaning) {
-        // Why says already which of them it is.
-        (Some(why), None | Some(OUT_OF_RANGE | GAVE_UP)) => format!("{words}: {why}"),
-        (Some(why), Some(meaning)) => format!("{words}: {why}; {meaning}"),
+        // Why it stopped doesn't say why it may not sleep.
+        (Some(why), Some(meaning)) if code == 11 && position.is_some() => {
+            format!("{words}: {why}; {meaning}")
+        }
+        (Some(why), _) => format!("{words}: {why}"),
         (None, Some(meaning)) => format!("{words}, {meaning}"),
         (None, None) => words,
     }
@@ -78,6 +80,7 @@ fn coded(code: i32, position: Option<usize>, why: Option<String>, meaning: Optio
 #[cfg(test)]
 mod tests {
     use super::*;
+    use crate::codes::OUT_OF_RANGE;
     use crate::parse;
 
     /// An event as in a text.
@@ -106,7 +109,7 @@ mod tests {
         ] {
             assert_eq!(told(&operate, code, position, why), wanted);
         }
-        let set_value = Event::SetValue { identifier: 0, number: 0, value: 40_000 };
+        let set_value = event("set 0 by=1 number=0 value=40000");
         let wanted = "refused: ERANGE (34), the value isn't 0 to 32767";
         assert_eq!(told(&set_value, 34, None, ""), wanted);
     }
@@ -134,7 +137,7 @@ mod tests {
 
     #[test]
     fn settings_that_are_done_or_refused() {
-        let set_all = Event::SetAll { identifier: 0, values: vec![1, 40_000] };
+        let set_all = event("set-all 0 by=1 values=1,40000");
         assert_eq!(told(&set_all, 0, None, ""), "done (0), 0 looks");
         let wanted = "refused: ERANGE (34), a value isn't 0 to 32767";
         assert_eq!(told(&set_all, 34, None, ""), wanted);
@@ -143,10 +146,44 @@ mod tests {
         assert_eq!(told(&set_all, 22, None, ""), wanted);
     }
 
+    /// Who asks is named by all but the last three; a mode is asked by the first five.
+    #[test]
+    fn callers_that_are_refused() {
+        let text = "operate 1 set=0 0:-1\nset 0 by=1 number=0 value=1\nquery 0 by=1 number=0\n\
+            set-all 0 by=1 values=1\nread-all 0 by=1\ncreate 1 by=1\nremove 0 by=1\n\
+            as 1 user=7 group=9\nsignal 1\nexit 1\ntime 1";
+        let events = parse::events(text.as_bytes()).expect("events");
+        for (code, name, meaning, gives) in [
+            (1, "EPERM", "only the set's owner and user 0 may remove it", 6..7),
+            (3, "ESRCH", "no such process", 0..10),
+            (13, "EACCES", "the set's mode doesn't permit it", 0..5),
+            (16, "EBUSY", "the process is asleep", 0..8),
+        ] {
+            for (index, event) in events.iter().enumerate() {
+                let alone = format!("refused: {name} ({code})");
+                let words = format!("{alone}, {meaning}");
+                let wanted = if gives.contains(&index) { &words } else { &alone };
+                assert_eq!(&told(event, code, None, ""), wanted, "{event:?}");
+                assert_eq!(told(event, code, None, "so"), format!("{alone}: so"));
+            }
+        }
+    }
+
+    #[test]
+    fn creates_that_are_refused() {
+        for (line, wanted) in [
+            ("create 0 by=1 mode=1000", "the count isn't 1 to 8"),
+            ("create 9 by=1", "the count isn't 1 to 8"),
+            ("create 8 by=1 mode=1000", "the mode is above 777"),
+        ] {
+            assert_eq!(told(&event(line), 22, None, ""), format!("refused: EINVAL (22), {wanted}"));
+        }
+    }
+
     /// Who waits is told only where somebody does.
     #[test]
     fn readings_semaphore_by_semaphore() {
-        let read_all = Event::ReadAll { identifier: 4 };
+        let read_all = event("read-all 4 by=1");
         for (line, wanted) in [
             ("0 7 0 0", "done (0); semaphore 0: value 7"),
             (

@@ -4,6 +4,7 @@
 #[derive(Clone, Copy, Debug, PartialEq, Eq)]
 #[repr(u8)]
 pub enum Errno {
+    Eperm = 1,
     Esrch = 3,
     Eintr = 4,
     E2big = 7,

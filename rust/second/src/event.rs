@@ -1,4 +1,4 @@
-//! The ten events and their bodies in a run file, read and written.
+//! The eleven events and their bodies in a run file, read and written.
 
 use crate::bad::Bad;
 
@@ -6,16 +6,17 @@ use crate::bad::Bad;
 /// values are lent. An operate has a body of one kind without a wait, and of another with it.
 #[derive(Clone, Copy, Debug)]
 pub enum Event<'a> {
-    Create { count: u8, read: u8, alter: u8 },
+    Create { process: u8, count: u8, mode: u16 },
     Operate { process: u8, identifier: i32, wait: Option<u32>, operations: &'a [u8] },
-    SetValue { identifier: i32, number: u16, value: i32 },
-    Remove { identifier: i32 },
+    SetValue { process: u8, identifier: i32, number: u16, value: i32 },
+    Remove { process: u8, identifier: i32 },
     Signal { process: u8 },
     Exit { process: u8 },
-    Query { identifier: i32, number: u16 },
+    Query { process: u8, identifier: i32, number: u16 },
     Clock { time: u64 },
-    SetAll { identifier: i32, values: &'a [u8] },
-    ReadAll { identifier: i32 },
+    SetAll { process: u8, identifier: i32, values: &'a [u8] },
+    ReadAll { process: u8, identifier: i32 },
+    ActAs { process: u8, user: u32, group: u32 },
 }
 
 /// Bytes of one operation, and of one value.
@@ -28,21 +29,25 @@ impl<'a> Event<'a> {
     #[inline(always)]
     pub fn decode(body: &'a [u8]) -> Result<Event<'a>, Bad> {
         Ok(match *body {
-            [1, count, read, alter] => Event::Create { count, read, alter },
+            [1, process, count, n, m] => {
+                Event::Create { process, count, mode: u16::from_le_bytes([n, m]) }
+            }
             [2, process, a, b, c, d, number, ref operations @ ..]
                 if operations.len() == OPERATION * usize::from(number) =>
             {
                 Event::Operate { process, identifier: signed([a, b, c, d]), wait: None, operations }
             }
-            [3, a, b, c, d, n, m, e, f, g, h] => Event::SetValue {
+            [3, process, a, b, c, d, n, m, e, f, g, h] => Event::SetValue {
+                process,
                 identifier: signed([a, b, c, d]),
                 number: u16::from_le_bytes([n, m]),
                 value: signed([e, f, g, h]),
             },
-            [4, a, b, c, d] => Event::Remove { identifier: signed([a, b, c, d]) },
+            [4, process, a, b, c, d] => Event::Remove { process, identifier: signed([a, b, c, d]) },
             [5, process] => Event::Signal { process },
             [6, process] => Event::Exit { process },
-            [7, a, b, c, d, n, m] => Event::Query {
+            [7, process, a, b, c, d, n, m] => Event::Query {
+                process,
                 identifier: signed([a, b, c, d]),
                 number: u16::from_le_bytes([n, m]),
             },
@@ -55,13 +60,20 @@ impl<'a> Event<'a> {
             [9, a, b, c, d, e, f, g, h] => {
                 Event::Clock { time: u64::from_le_bytes([a, b, c, d, e, f, g, h]) }
             }
-            [10, a, b, c, d, number, ref values @ ..]
+            [10, process, a, b, c, d, number, ref values @ ..]
                 if values.len() == VALUE * usize::from(number) =>
             {
-                Event::SetAll { identifier: signed([a, b, c, d]), values }
+                Event::SetAll { process, identifier: signed([a, b, c, d]), values }
             }
-            [11, a, b, c, d] => Event::ReadAll { identifier: signed([a, b, c, d]) },
-            [] | [1..=11, ..] => return Err(Bad::Body),
+            [11, process, a, b, c, d] => {
+                Event::ReadAll { process, identifier: signed([a, b, c, d]) }
+            }
+            [12, process, a, b, c, d, e, f, g, h] => Event::ActAs {
+                process,
+                user: u32::from_le_bytes([a, b, c, d]),
+                group: u32::from_le_bytes([e, f, g, h]),
+            },
+            [] | [1..=12, ..] => return Err(Bad::Body),
             [_, ..] => return Err(Bad::Kind),
         })
     }
@@ -76,8 +88,9 @@ pub type Body = Vec<u8>;
 /// Number, amount and flags of one operation.
 pub type Operation = (u16, i16, u16);
 
-pub fn create(count: u8, read: u8, alter: u8) -> Body {
-    vec![1, count, read, alter]
+pub fn create(process: u8, count: u8, mode: u16) -> Body {
+    let [n, m] = mode.to_le_bytes();
+    vec![1, process, count, n, m]
 }
 
 pub fn operate(process: u8, identifier: i32, operations: &[Operation]) -> Body {
@@ -103,16 +116,16 @@ fn with_operations(mut body: Body, operations: &[Operation]) -> Body {
     body
 }
 
-pub fn set_value(identifier: i32, number: u16, value: i32) -> Body {
+pub fn set_value(process: u8, identifier: i32, number: u16, value: i32) -> Body {
     let [a, b, c, d] = identifier.to_le_bytes();
     let [n, m] = number.to_le_bytes();
     let [e, f, g, h] = value.to_le_bytes();
-    vec![3, a, b, c, d, n, m, e, f, g, h]
+    vec![3, process, a, b, c, d, n, m, e, f, g, h]
 }
 
-pub fn remove(identifier: i32) -> Body {
+pub fn remove(process: u8, identifier: i32) -> Body {
     let [a, b, c, d] = identifier.to_le_bytes();
-    vec![4, a, b, c, d]
+    vec![4, process, a, b, c, d]
 }
 
 pub fn signal(process: u8) -> Body {
@@ -123,10 +136,10 @@ pub fn exit(process: u8) -> Body {
     vec![6, process]
 }
 
-pub fn query(identifier: i32, number: u16) -> Body {
+pub fn query(process: u8, identifier: i32, number: u16) -> Body {
     let [a, b, c, d] = identifier.to_le_bytes();
     let [n, m] = number.to_le_bytes();
-    vec![7, a, b, c, d, n, m]
+    vec![7, process, a, b, c, d, n, m]
 }
 
 pub fn clock(time: u64) -> Body {
@@ -135,14 +148,20 @@ pub fn clock(time: u64) -> Body {
 }
 
 /// The number of values is the low byte of their count.
-pub fn set_all(identifier: i32, values: &[i32]) -> Body {
+pub fn set_all(process: u8, identifier: i32, values: &[i32]) -> Body {
     let [a, b, c, d] = identifier.to_le_bytes();
-    let mut body = vec![10, a, b, c, d, values.len() as u8];
+    let mut body = vec![10, process, a, b, c, d, values.len() as u8];
     body.extend(values.iter().flat_map(|value| value.to_le_bytes()));
     body
 }
 
-pub fn read_all(identifier: i32) -> Body {
+pub fn read_all(process: u8, identifier: i32) -> Body {
     let [a, b, c, d] = identifier.to_le_bytes();
-    vec![11, a, b, c, d]
+    vec![11, process, a, b, c, d]
+}
+
+pub fn act_as(process: u8, user: u32, group: u32) -> Body {
+    let [a, b, c, d] = user.to_le_bytes();
+    let [e, f, g, h] = group.to_le_bytes();
+    vec![12, process, a, b, c, d, e, f, g, h]
 }

@@ -1,4 +1,4 @@
-//! The ten events of a host.
+//! The eleven events of a host.
 
 use crate::answer::{Answer, Reading, Report, State, ASLEEP};
 use crate::clock::{Wait, TIME_MAX};
@@ -6,38 +6,47 @@ use crate::errno::Errno;
 use crate::event::Event;
 use crate::host::{identifier, Host, SLOTS};
 use crate::judge::{Outcome, SEMAPHORES, VALUE_MAX};
+use crate::permission::{Credentials, ALTER, MODE_MAX, READ};
 use crate::process::Process;
 use crate::set::Set;
 
 impl Host {
     pub fn handle(&mut self, event: &Event) -> Answer {
         match *event {
-            Event::Create { count, read, alter } => self.create(count, read, alter).into(),
+            Event::Create { process, count, mode } => self.create(process, count, mode).into(),
             Event::Operate { process, identifier, wait, operations } => {
                 self.operate(process, identifier, wait, operations).into()
             }
-            Event::SetValue { identifier, number, value } => {
-                self.set_value(identifier, number, value).into()
+            Event::SetValue { process, identifier, number, value } => {
+                self.set_value(process, identifier, number, value).into()
             }
-            Event::Remove { identifier } => self.remove(identifier).into(),
+            Event::Remove { process, identifier } => self.remove(process, identifier).into(),
             Event::Signal { process } => self.signal(process).into(),
             Event::Exit { process } => self.exit(process).into(),
-            Event::Query { identifier, number } => self.query(identifier, number).into(),
+            Event::Query { process, identifier, number } => {
+                self.query(process, identifier, number).into()
+            }
             Event::Clock { time } => self.clock(time).into(),
-            Event::SetAll { identifier, values } => self.set_all(identifier, values).into(),
-            Event::ReadAll { identifier } => self.query_set(identifier).into(),
+            Event::SetAll { process, identifier, values } => {
+                self.set_all(process, identifier, values).into()
+            }
+            Event::ReadAll { process, identifier } => self.query_set(process, identifier).into(),
+            Event::ActAs { process, user, group } => self.act_as(process, user, group).into(),
         }
     }
 
-    fn create(&mut self, count: u8, read: u8, alter: u8) -> Result<Report, Errno> {
-        if !(1..=SEMAPHORES as u8).contains(&count) {
+    fn create(&mut self, process: u8, count: u8, mode: u16) -> Result<Report, Errno> {
+        let creator = self.caller(process)?;
+        if !(1..=SEMAPHORES as u8).contains(&count) || mode > MODE_MAX {
             return Err(Errno::Einval);
         }
         let slot = self.sets.iter().position(|set| !set.is_live()).ok_or(Errno::Enospc)?;
+        let Credentials { user, group } = self.credentials[creator.index()];
         let set = &mut self.sets[slot];
         set.count = count;
-        set.read = read;
-        set.alter = alter;
+        set.owner = user;
+        set.group = group;
+        set.mode = mode;
         Ok(Report { value: identifier(slot, set), ..Report::default() })
     }
 
@@ -48,14 +57,11 @@ impl Host {
         wait: Option<u32>,
         bytes: &[u8],
     ) -> Result<Report, Errno> {
-        let process = Process::new(process)?;
-        if self.queue.asleep() & process.bit() != 0 {
-            return Err(Errno::Ebusy);
-        }
+        let process = self.caller(process)?;
         self.queue.read(process, bytes)?;
         let slot = self.find(identifier)?;
         let array = &self.queue.call(process).array;
-        self.sets[slot].admit(process, array)?;
+        self.credentials[process.index()].admit(&self.sets[slot], array)?;
         let (outcome, touched) = self.sets[slot].perform(process, array);
         match outcome {
             Outcome::Refused(errno, position) => {
@@ -75,13 +81,18 @@ impl Host {
         }
     }
 
-    fn set_value(&mut self, identifier: i32, number: u16, value: i32) -> Result<Report, Errno> {
-        let slot = self.find(identifier)?;
-        let set = &mut self.sets[slot];
-        let number = set.semaphore(number).ok_or(Errno::Einval)?;
+    fn set_value(
+        &mut self,
+        process: u8,
+        identifier: i32,
+        number: u16,
+        value: i32,
+    ) -> Result<Report, Errno> {
+        let (slot, number) = self.open_at(process, identifier, number, ALTER)?;
         if !(0..=VALUE_MAX).contains(&value) {
             return Err(Errno::Erange);
         }
+        let set = &mut self.sets[slot];
         // Touched even where the value is the same, since the adjustments may not be.
         let touched = 1 << number;
         set.values[number] = value;
@@ -91,8 +102,10 @@ impl Host {
         Ok(self.treated(slot, touched))
     }
 
-    fn remove(&mut self, identifier: i32) -> Result<Report, Errno> {
+    fn remove(&mut self, process: u8, identifier: i32) -> Result<Report, Errno> {
+        let remover = self.caller(process)?;
         let slot = self.find(identifier)?;
+        self.credentials[remover.index()].permit_removal(&self.sets[slot])?;
         let generation = self.sets[slot].generation.wrapping_add(1);
         self.sets[slot] = Set { generation, ..Set::FREE };
         let mut report = Report::default();
@@ -128,10 +141,9 @@ impl Host {
         Ok(report)
     }
 
-    fn query(&self, identifier: i32, number: u16) -> Result<State, Errno> {
-        let slot = self.find(identifier)?;
+    fn query(&self, process: u8, identifier: i32, number: u16) -> Result<State, Errno> {
+        let (slot, index) = self.open_at(process, identifier, number, READ)?;
         let set = &self.sets[slot];
-        let index = set.semaphore(number).ok_or(Errno::Einval)?;
         let mut state =
             State { value: set.values[index], last: set.last[index], ..State::default() };
         // Only who names the semaphore can stop there.
@@ -162,8 +174,8 @@ impl Host {
         Ok(report)
     }
 
-    fn set_all(&mut self, identifier: i32, values: &[u8]) -> Result<Report, Errno> {
-        let slot = self.find(identifier)?;
+    fn set_all(&mut self, process: u8, identifier: i32, values: &[u8]) -> Result<Report, Errno> {
+        let slot = self.open(process, identifier, ALTER)?;
         self.sets[slot].set_all(values)?;
         // Every semaphore is touched, even where its value is the same.
         Ok(self.treated(slot, u8::MAX))
@@ -171,8 +183,8 @@ impl Host {
 
     /// The whole set at once: each of its sleepers is judged, and waits at the semaphore where it
     /// stops.
-    pub fn query_set(&self, identifier: i32) -> Result<Reading, Errno> {
-        let slot = self.find(identifier)?;
+    pub fn query_set(&self, process: u8, identifier: i32) -> Result<Reading, Errno> {
+        let slot = self.open(process, identifier, READ)?;
         let set = &self.sets[slot];
         let (count, values, last) = (set.count, set.values, set.last);
         let mut reading = Reading { count, values, last, ..Reading::default() };
@@ -189,5 +201,11 @@ impl Host {
             }
         }
         Ok(reading)
+    }
+
+    fn act_as(&mut self, process: u8, user: u32, group: u32) -> Result<Report, Errno> {
+        let actor = self.caller(process)?;
+        self.credentials[actor.index()] = Credentials { user, group };
+        Ok(Report::default())
     }
 }

@@ -1,6 +1,8 @@
 //! The host: what it holds.
 
 use crate::errno::Errno;
+use crate::permission::Credentials;
+use crate::process::{Process, PROCESSES};
 use crate::queue::Queue;
 use crate::set::Set;
 
@@ -18,6 +20,8 @@ pub struct Host {
     pub(crate) rule: Rule,
     pub(crate) sets: [Set; SLOTS],
     pub(crate) queue: Queue,
+    /// By process.
+    pub(crate) credentials: [Credentials; PROCESSES],
     /// The time last told.
     pub(crate) time: u64,
 }
@@ -25,7 +29,13 @@ pub struct Host {
 impl Host {
     /// A fresh host that wakes by `rule`.
     pub fn new(rule: Rule) -> Host {
-        Host { rule, sets: [Set::FREE; SLOTS], queue: Queue::new(), time: 0 }
+        Host {
+            rule,
+            sets: [Set::FREE; SLOTS],
+            queue: Queue::new(),
+            credentials: [Credentials::default(); PROCESSES],
+            time: 0,
+        }
     }
 
     /// The live sets with their identifiers, from slot 0 up.
@@ -39,6 +49,11 @@ impl Host {
         self.queue.asleep()
     }
 
+    /// Who each process acts as, process 1 first.
+    pub fn credentials(&self) -> &[Credentials; PROCESSES] {
+        &self.credentials
+    }
+
     /// The time last told, in milliseconds.
     pub fn time(&self) -> u64 {
         self.time
@@ -47,6 +62,36 @@ impl Host {
     /// The times at which waits of sleepers are over, the oldest sleeper's first.
     pub fn ends(&self) -> impl Iterator<Item = u64> + '_ {
         self.queue.ends()
+    }
+
+    /// The process that makes a call, which it can while it is awake.
+    pub(crate) fn caller(&self, number: u8) -> Result<Process, Errno> {
+        let process = Process::new(number)?;
+        if self.queue.asleep() & process.bit() != 0 {
+            return Err(Errno::Ebusy);
+        }
+        Ok(process)
+    }
+
+    /// The slot of a live set in which the caller may do what is asked.
+    pub(crate) fn open(&self, process: u8, identifier: i32, asked: u16) -> Result<usize, Errno> {
+        let caller = self.caller(process)?;
+        let slot = self.find(identifier)?;
+        self.credentials[caller.index()].permit(&self.sets[slot], asked)?;
+        Ok(slot)
+    }
+
+    /// The same, and the index of the semaphore with this number.
+    pub(crate) fn open_at(
+        &self,
+        process: u8,
+        identifier: i32,
+        number: u16,
+        asked: u16,
+    ) -> Result<(usize, usize), Errno> {
+        let slot = self.open(process, identifier, asked)?;
+        let index = self.sets[slot].semaphore(number).ok_or(Errno::Einval)?;
+        Ok((slot, index))
     }
 
     /// The slot of the live set with this identifier.

@@ -11,8 +11,10 @@ pub struct Set {
     pub generation: u16,
     /// Number of semaphores; 0 in a free slot.
     pub count: u8,
-    pub read: u8,
-    pub alter: u8,
+    /// The creator's user and group, as they were then.
+    pub owner: u32,
+    pub group: u32,
+    pub mode: u16,
     pub values: [i32; SEMAPHORES],
     /// The process number of the last operation on each semaphore.
     pub last: [u8; SEMAPHORES],
@@ -24,8 +26,9 @@ impl Set {
     pub const FREE: Set = Set {
         generation: 0,
         count: 0,
-        read: 0,
-        alter: 0,
+        owner: 0,
+        group: 0,
+        mode: 0,
         values: [0; SEMAPHORES],
         last: [0; SEMAPHORES],
         adjustments: [[0; SEMAPHORES]; PROCESSES],
@@ -38,23 +41,6 @@ impl Set {
     /// The index of the semaphore with this number, if the set has it.
     pub fn semaphore(&self, number: u16) -> Option<usize> {
         (number < u16::from(self.count)).then(|| usize::from(number))
-    }
-
-    /// Are all the semaphores there, and may the process do what it asks?
-    pub fn admit(&self, process: Process, array: &Array) -> Result<(), Errno> {
-        let mut permitted = true;
-        for operation in array.operations() {
-            if self.semaphore(operation.number).is_none() {
-                return Err(Errno::Efbig);
-            }
-            let mask = if operation.amount == 0 { self.read } else { self.alter };
-            permitted &= mask & process.bit() != 0;
-        }
-        if permitted {
-            Ok(())
-        } else {
-            Err(Errno::Eacces)
-        }
     }
 
     /// Sets all values, which come as bytes, and forgets what any process holds. There has to be

@@ -9,12 +9,15 @@ use std::process::ExitCode;
 use std::time::{Duration, Instant};
 
 use measured::Table;
-use second::RunFile;
+use second::{Event, RunFile};
 use through::Handed;
 use vairolent::Host;
 
 /// How often a round shows the screen.
 const TIMES: u32 = 1_000;
+
+/// The process that shows it.
+const SCREEN: u8 = 8;
 
 const TABLE: Table = Table {
     program: "screen_speed",
@@ -42,11 +45,12 @@ struct Screen {
 }
 
 impl Screen {
-    /// The host that a run leaves.
+    /// The host that a run leaves, once the screen's process is awake and may read every set.
     fn after(run: &RunFile) -> Screen {
         let mut host = Host::new();
         let mut ordinary = second::Host::new(second::Rule::Quick);
-        for event in run.events() {
+        let user_0 = Event::ActAs { process: SCREEN, user: 0, group: 0 };
+        for event in run.events().chain([Event::Signal { process: SCREEN }, user_0]) {
             let _ = through::run(&mut host, &Handed::from(event));
             ordinary.handle(&event);
         }
@@ -76,8 +80,10 @@ impl Screen {
 
     /// Values, counts and last processes of all that is shown, added up.
     fn whole(&self) -> u64 {
-        let shown =
-            self.sets.iter().filter_map(|&(identifier, _)| self.host.query_set(identifier).ok());
+        let shown = self
+            .sets
+            .iter()
+            .filter_map(|&(identifier, _)| self.host.query_set(SCREEN, identifier).ok());
         shown.map(|set| set.semaphores().iter().map(sum).sum::<u64>()).sum()
     }
 
@@ -87,7 +93,7 @@ impl Screen {
             .sets
             .iter()
             .flat_map(|&(identifier, count)| (0..count).map(move |n| (identifier, n)));
-        all.filter_map(|(identifier, n)| self.host.query(identifier, n).ok())
+        all.filter_map(|(identifier, n)| self.host.query(SCREEN, identifier, n).ok())
             .map(|seen| sum(&seen))
             .sum()
     }
@@ -101,7 +107,7 @@ impl Screen {
         let shown = self
             .sets
             .iter()
-            .filter_map(|&(identifier, _)| self.ordinary.query_set(identifier).ok());
+            .filter_map(|&(identifier, _)| self.ordinary.query_set(SCREEN, identifier).ok());
         shown.map(|set| set.states().map(sum).sum::<u64>()).sum()
     }
 }

@@ -1,7 +1,7 @@
 //! A ground station's spin table has three seats and two screens, and planners share them by two
 //! semaphores.
 
-use vairolent::{Answer, Error, Host, Operation, ALL};
+use vairolent::{Answer, Error, Host, Operation};
 
 /// Takes a seat and a screen, or neither. With undo, a planner whose program ends gives both back.
 const TAKE: [Operation; 2] = [Operation::new(0, -1).undo(), Operation::new(1, -1).undo()];
@@ -12,8 +12,8 @@ const TAKEN: [&str; 2] = ["seat", "screen"];
 fn main() -> Result<(), Error> {
     let mut host = Host::new();
     // A set of two semaphores, for all to read and alter. Their values are how many are free.
-    let table = host.create(2, ALL, ALL)?;
-    let _ = host.set_all(table, &[3, 2])?; // nobody sleeps yet
+    let table = host.create(1, 2, 0o666)?;
+    let _ = host.set_all(1, table, &[3, 2])?; // nobody sleeps yet
 
     for planner in 1..=3 {
         match host.operate(planner, table, &TAKE)? {
@@ -28,7 +28,7 @@ fn main() -> Result<(), Error> {
     for waking in host.exit(1)? {
         println!("  {waking}");
     }
-    println!("the screens: {}", host.query(table, 1)?);
+    println!("the screens: {}", host.query(2, table, 1)?);
 
     // Planner 4 would rather do without than sleep.
     match host.operate(4, table, &TAKE.map(Operation::nowait)) {

@@ -1,14 +1,15 @@
 //! Holds whole sets, as this package shows them, to ordinary Rust: it replays run files through
-//! both, and compares after every event what each set shows, live or not. What comes out says how
-//! much was compared.
+//! both, and compares after every event what each set, live or not, shows to each process. What
+//! comes out says how much was compared.
 
 mod through;
 
+use std::collections::BTreeMap;
 use std::process::ExitCode;
 
 use second::{RunFile, State};
 use through::Handed;
-use vairolent::{Error, Host, Semaphore};
+use vairolent::{Host, Semaphore, PROCESSES};
 
 const USAGE: &str = "usage: sets FILE...";
 
@@ -17,7 +18,7 @@ fn main() -> ExitCode {
     match compare(&paths) {
         Ok(tally) => {
             println!(
-                "{} files; sets alike: {}; refused: {}",
+                "{} files; sets alike: {}; refused, by code: {:?}",
                 paths.len(),
                 tally.alike,
                 tally.refused
@@ -38,9 +39,9 @@ fn main() -> ExitCode {
 /// How much was compared.
 #[derive(Default)]
 struct Tally {
-    /// Whole sets that both show alike, and identifiers that both refuse.
+    /// Whole sets that both show alike, and those that both refuse, by code.
     alike: usize,
-    refused: usize,
+    refused: BTreeMap<i32, usize>,
     /// Arrays that were judged; sets with sleepers while others sleep elsewhere.
     judged: usize,
     beside: usize,
@@ -58,14 +59,18 @@ fn compare(paths: &[String]) -> Result<Tally, String> {
             replay(&run, &mut tally).map_err(|words| format!("{path}: {words}"))?;
         }
     }
-    let came = [tally.alike, tally.refused, tally.judged, tally.beside];
-    if came.contains(&0) {
-        return Err(format!("too little was compared: {came:?}"));
+    let came = [tally.alike, tally.judged, tally.beside];
+    if came.contains(&0) || !tally.refused.keys().eq(&REFUSALS) {
+        return Err(format!("too little was compared: {came:?}, {:?}", tally.refused));
     }
     Ok(tally)
 }
 
-/// Every event in both; after each the set of every slot, and an identifier of the next generation.
+/// No such process, not permitted, the process is asleep, and no such set.
+const REFUSALS: [i32; 4] = [3, 13, 16, 22];
+
+/// Every event in both; after each the set of every slot, and an identifier of the next generation,
+/// for every process, and two that are none.
 fn replay(run: &RunFile, tally: &mut Tally) -> Result<(), String> {
     let mut host = Host::new();
     let mut ordinary = second::Host::new(second::Rule::Quick);
@@ -75,16 +80,25 @@ fn replay(run: &RunFile, tally: &mut Tally) -> Result<(), String> {
         let live: Vec<i32> = ordinary.live_sets().map(|(identifier, _)| identifier).collect();
         let others = live.iter().map(|identifier| identifier + 4);
         for identifier in live.iter().copied().chain(others).chain([-1, 0, 1, 2, 3]) {
-            one(&host, &ordinary, identifier, tally)
-                .ok_or_else(|| format!("event {position}: set {identifier} is not alike"))?;
+            for process in 0..=PROCESSES as u8 + 1 {
+                one(&host, &ordinary, process, identifier, tally).ok_or_else(|| {
+                    format!("event {position}: set {identifier} is not alike for process {process}")
+                })?;
+            }
         }
     }
     Ok(())
 }
 
-/// One identifier in both; nothing if they differ.
-fn one(host: &Host, ordinary: &second::Host, identifier: i32, tally: &mut Tally) -> Option<()> {
-    match (host.query_set(identifier), ordinary.query_set(identifier)) {
+/// One identifier for one process in both; nothing if they differ.
+fn one(
+    host: &Host,
+    ordinary: &second::Host,
+    process: u8,
+    identifier: i32,
+    tally: &mut Tally,
+) -> Option<()> {
+    match (host.query_set(process, identifier), ordinary.query_set(process, identifier)) {
         (Ok(seen), Ok(wanted)) => {
             let states: Option<Vec<State>> = seen.semaphores().iter().map(state).collect();
             tally.alike += 1;
@@ -93,8 +107,8 @@ fn one(host: &Host, ordinary: &second::Host, identifier: i32, tally: &mut Tally)
             tally.beside += usize::from(seen.judged() > 0 && others > 0);
             (wanted.states().eq(states?) && seen.judged() == wanted.judged).then_some(())
         }
-        (Err(Error::Invalid), Err(second::Errno::Einval)) => {
-            tally.refused += 1;
+        (Err(error), Err(errno)) if error.code() == i32::from(errno.number()) => {
+            *tally.refused.entry(error.code()).or_default() += 1;
             Some(())
         }
         _ => None,

@@ -8,10 +8,10 @@ use crate::wakings::Wakings;
 /// What becomes of a call that is not refused.
 ///
 /// ```
-/// use vairolent::{Host, Operation, ALL};
+/// use vairolent::{Host, Operation};
 ///
 /// let mut host = Host::new();
-/// let set = host.create(1, ALL, ALL)?;
+/// let set = host.create(1, 1, 0o666)?;
 /// let asleep = host.operate(1, set, &[Operation::new(0, -1)])?;
 /// assert_eq!(asleep.to_string(), "asleep (-1) at operation 0");
 /// let done = host.operate(2, set, &[Operation::new(0, 1)])?;
@@ -49,13 +49,13 @@ impl fmt::Display for Answer {
 /// negative, else for zero. Each count is the number of ones in its mask.
 ///
 /// ```
-/// use vairolent::{Answer, Host, Operation, ALL};
+/// use vairolent::{Answer, Host, Operation};
 ///
 /// let mut host = Host::new();
-/// let set = host.create(1, ALL, ALL)?;
+/// let set = host.create(4, 1, 0o666)?;
 /// assert_eq!(host.operate(3, set, &[Operation::new(0, -2)])?, Answer::Asleep { position: 0 });
 /// let _ = host.operate(4, set, &[Operation::new(0, 1)])?;
-/// let seen = host.query(set, 0)?;
+/// let seen = host.query(4, set, 0)?;
 /// assert_eq!(seen.to_string(), "value 1, last process 4, waiting 1 for increase, 0 for zero");
 /// # Ok::<(), vairolent::Error>(())
 /// ```

@@ -6,10 +6,10 @@
 
 use std::mem::size_of;
 
-use crate::limits::{OPERATIONS, PROCESSES, SEMAPHORES, SETS, VALUE_MAX};
+use crate::limits::{MODE_MAX, OPERATIONS, PROCESSES, SEMAPHORES, SETS, VALUE_MAX};
 
 /// All that a host holds but the adjustments.
-pub type Row = [u8; 1_821];
+pub type Row = [u8; 1_917];
 
 /// The undo adjustments, of each process for each semaphore.
 pub type Adjustments = [i16; PROCESSES * SETS * SEMAPHORES];
@@ -98,6 +98,7 @@ pub struct Limits {
     pub processes: usize,
     pub operations: usize,
     pub value_max: usize,
+    pub mode_max: usize,
     pub row_bytes: usize,
     pub adjustments: usize,
 }
@@ -109,6 +110,7 @@ pub const LIMITS: Limits = Limits {
     processes: PROCESSES,
     operations: OPERATIONS,
     value_max: VALUE_MAX as usize,
+    mode_max: MODE_MAX as usize,
     row_bytes: size_of::<Row>(),
     adjustments: size_of::<Adjustments>() / size_of::<i16>(),
 };
@@ -122,9 +124,9 @@ extern "C" {
         row: &mut Row,
         adjustments: &mut Adjustments,
         wakings: &mut List,
+        process: u8,
         count: u8,
-        read: u8,
-        alter: u8,
+        mode: u16,
     ) -> Told;
 
     /// The operations are so many bytes, six for each. The wait is in milliseconds, if there is one.
@@ -144,6 +146,7 @@ extern "C" {
         row: &mut Row,
         adjustments: &mut Adjustments,
         wakings: &mut List,
+        process: u8,
         identifier: i32,
         number: u16,
         value: i32,
@@ -154,6 +157,7 @@ extern "C" {
         row: &mut Row,
         adjustments: &mut Adjustments,
         wakings: &mut List,
+        process: u8,
         identifier: i32,
         values: *const u8,
         bytes: usize,
@@ -163,6 +167,7 @@ extern "C" {
         row: &mut Row,
         adjustments: &mut Adjustments,
         wakings: &mut List,
+        process: u8,
         identifier: i32,
     ) -> Told;
 
@@ -187,9 +192,19 @@ extern "C" {
         time: u64,
     ) -> Told;
 
+    pub fn vairolent_act_as_in(
+        row: &mut Row,
+        adjustments: &mut Adjustments,
+        wakings: &mut List,
+        process: u8,
+        user: u32,
+        group: u32,
+    ) -> Told;
+
     pub fn vairolent_query_in(
         row: &Row,
         adjustments: &Adjustments,
+        process: u8,
         identifier: i32,
         number: u16,
     ) -> Queried;
@@ -197,6 +212,7 @@ extern "C" {
     pub fn vairolent_query_set_in(
         row: &Row,
         adjustments: &Adjustments,
+        process: u8,
         identifier: i32,
     ) -> QueriedSet;
 }
@@ -204,7 +220,6 @@ extern "C" {
 #[cfg(test)]
 mod tests {
     use super::*;
-    use crate::limits::ALL;
 
     #[test]
     fn the_limits_and_sizes_are_those_of_the_archive() {
@@ -218,10 +233,5 @@ mod tests {
         assert_eq!(Position { there: 0, at: 7 }.get(), None);
         assert_eq!(Position { there: 1, at: 0 }.get(), Some(0));
         assert_eq!(Position { there: 1, at: 7 }.get(), Some(7));
-    }
-
-    #[test]
-    fn all_has_a_bit_for_each_process() {
-        assert_eq!(ALL.count_ones() as usize, PROCESSES);
     }
 }

@@ -16,6 +16,7 @@ const fn code(number: i32, name: &'static str, words: &'static str) -> Code {
 
 pub const ASLEEP: Code = code(-1, "asleep", "");
 pub const DONE: Code = code(0, "done", "");
+pub const EPERM: Code = code(1, "EPERM", "the set is another user's");
 pub const ESRCH: Code = code(3, "ESRCH", "no such process");
 pub const EINTR: Code = code(4, "EINTR", "a signal interrupted it");
 pub const E2BIG: Code = code(7, "E2BIG", "too many operations");
@@ -23,7 +24,7 @@ pub const E2BIG: Code = code(7, "E2BIG", "too many operations");
 pub const EAGAIN: Code = code(11, "EAGAIN", "an operation would sleep, and may not");
 /// Of a wait.
 pub const EAGAIN_BY_CLOCK: Code = code(11, "EAGAIN", "its wait is over");
-pub const EACCES: Code = code(13, "EACCES", "not permitted");
+pub const EACCES: Code = code(13, "EACCES", "the set's mode does not permit it");
 pub const EBUSY: Code = code(16, "EBUSY", "the process is asleep");
 pub const EINVAL: Code = code(22, "EINVAL", "no such set, or a bad argument");
 /// Of a time to tell.

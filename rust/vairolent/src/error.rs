@@ -19,10 +19,10 @@ coded! {
     /// operation that decided. What is refused before judging has none, nor has any other event.
     ///
     /// ```
-    /// use vairolent::{Error, Host, Operation, ALL};
+    /// use vairolent::{Error, Host, Operation};
     ///
     /// let mut host = Host::new();
-    /// let set = host.create(2, ALL, ALL)?;
+    /// let set = host.create(1, 2, 0o666)?;
     /// let operations = [Operation::new(0, 1), Operation::new(1, -1).nowait()];
     /// let error = host.operate(1, set, &operations).unwrap_err();
     /// assert_eq!(error, Error::WouldSleep { position: 1 });
@@ -40,16 +40,18 @@ coded! {
         /// EBUSY: the process is asleep.
         ProcessAsleep = EBUSY,
         /// EINVAL: the identifier names no live set, or an argument is bad. A create's count is 0
-        /// or over 8; an operate has no operations; the semaphore number of a set value or a query
-        /// is at or above the set's count; the values of a set all are not as many as the set has
-        /// semaphores.
+        /// or over 8, or its mode over 0o777; an operate has no operations; the semaphore number of
+        /// a set value or a query is at or above the set's count; the values of a set all are not as
+        /// many as the set has semaphores.
         Invalid = EINVAL,
         /// E2BIG: over 32 operations.
         TooManyOperations = E2BIG,
         /// EFBIG: the semaphore number of an operation is at or above the set's count.
         NoSemaphore = EFBIG,
-        /// EACCES: the set's masks do not permit an operation to the process.
+        /// EACCES: the set's mode does not permit the process to read, or to alter.
         NotPermitted = EACCES,
+        /// EPERM: the process that removes a set is not of its owner, and not of user 0.
+        NotOwner = EPERM,
         /// ENOSPC: no slot is free.
         NoSlot = ENOSPC,
         /// ERANGE: the value of a set value, or one of a set all, is not 0 to 32,767.

@@ -7,30 +7,32 @@ use crate::operation::Operation;
 use crate::set::Set;
 use crate::wakings::{Waking, Wakings};
 
-/// One of the ten events, with what it is handed. Each is the method of [`Host`] by its name.
+/// One of the eleven events, with what it is handed. Each is the method of [`Host`] by its name.
 #[derive(Clone, Copy, Debug, PartialEq, Eq)]
 #[allow(missing_docs)]
 pub enum Event<'a> {
     /// [`Host::create`]
-    Create { count: u8, read: u8, alter: u8 },
+    Create { process: u8, count: u8, mode: u16 },
     /// [`Host::operate`], or with a wait [`Host::operate_within`]
     Operate { process: u8, identifier: i32, wait: Option<u32>, operations: &'a [Operation] },
     /// [`Host::set_value`]
-    SetValue { identifier: i32, number: u16, value: i32 },
+    SetValue { process: u8, identifier: i32, number: u16, value: i32 },
     /// [`Host::remove`]
-    Remove { identifier: i32 },
+    Remove { process: u8, identifier: i32 },
     /// [`Host::signal`]
     Signal { process: u8 },
     /// [`Host::exit`]
     Exit { process: u8 },
     /// [`Host::query`]
-    Query { identifier: i32, number: u16 },
+    Query { process: u8, identifier: i32, number: u16 },
     /// [`Host::clock`]
     Clock { time: u64 },
     /// [`Host::set_all`]
-    SetAll { identifier: i32, values: &'a [i32] },
+    SetAll { process: u8, identifier: i32, values: &'a [i32] },
     /// [`Host::query_set`]
-    ReadAll { identifier: i32 },
+    ReadAll { process: u8, identifier: i32 },
+    /// [`Host::act_as`]
+    ActAs { process: u8, user: u32, group: u32 },
 }
 
 /// What an event told.
@@ -67,34 +69,46 @@ impl Host {
     /// Does any event, as the method by its name does it.
     ///
     /// ```
-    /// use vairolent::{Error, Event, Host, Told, ALL};
+    /// use vairolent::{Error, Event, Host, Told};
     ///
     /// let mut host = Host::new();
-    /// let create = Event::Create { count: 1, read: ALL, alter: ALL };
+    /// let create = Event::Create { process: 1, count: 1, mode: 0o666 };
     /// assert_eq!(host.run(&create), Told::Made(0));
-    /// assert_eq!(host.run(&Event::Remove { identifier: 4 }), Told::Refused(Error::Invalid));
+    /// let remove = Event::Remove { process: 1, identifier: 4 };
+    /// assert_eq!(host.run(&remove), Told::Refused(Error::Invalid));
     /// ```
     pub fn run(&mut self, event: &Event) -> Told {
         let told = match *event {
-            Event::Create { count, read, alter } => self.create(count, read, alter).map(Told::Made),
+            Event::Create { process, count, mode } => {
+                self.create(process, count, mode).map(Told::Made)
+            }
             Event::Operate { process, identifier, wait: None, operations } => {
                 self.operate(process, identifier, operations).map(Told::from)
             }
             Event::Operate { process, identifier, wait: Some(wait), operations } => {
                 self.operate_within(process, identifier, operations, wait).map(Told::from)
             }
-            Event::SetValue { identifier, number, value } => {
-                self.set_value(identifier, number, value).map(Told::Done)
+            Event::SetValue { process, identifier, number, value } => {
+                self.set_value(process, identifier, number, value).map(Told::Done)
             }
-            Event::Remove { identifier } => self.remove(identifier).map(Told::Done),
+            Event::Remove { process, identifier } => {
+                self.remove(process, identifier).map(Told::Done)
+            }
             Event::Signal { process } => self.signal(process).map(Told::Done),
             Event::Exit { process } => self.exit(process).map(Told::Done),
-            Event::Query { identifier, number } => self.query(identifier, number).map(Told::Seen),
-            Event::Clock { time } => self.clock(time).map(Told::Done),
-            Event::SetAll { identifier, values } => {
-                self.set_all(identifier, values).map(Told::Done)
+            Event::Query { process, identifier, number } => {
+                self.query(process, identifier, number).map(Told::Seen)
             }
-            Event::ReadAll { identifier } => self.query_set(identifier).map(Told::Read),
+            Event::Clock { time } => self.clock(time).map(Told::Done),
+            Event::SetAll { process, identifier, values } => {
+                self.set_all(process, identifier, values).map(Told::Done)
+            }
+            Event::ReadAll { process, identifier } => {
+                self.query_set(process, identifier).map(Told::Read)
+            }
+            Event::ActAs { process, user, group } => {
+                self.act_as(process, user, group).map(|()| Told::Done(Wakings::none()))
+            }
         };
         told.unwrap_or_else(Told::Refused)
     }
@@ -107,37 +121,43 @@ impl Event<'_> {
     /// ```
     /// use vairolent::Event;
     ///
-    /// assert_eq!(Event::Remove { identifier: 4 }.body(), Some(vec![4, 4, 0, 0, 0]));
+    /// let remove = Event::Remove { process: 1, identifier: 8 };
+    /// assert_eq!(remove.body(), Some(vec![4, 1, 8, 0, 0, 0]));
     /// ```
     pub fn body(&self) -> Option<Vec<u8>> {
         Some(match *self {
-            Event::Create { count, read, alter } => vec![1, count, read, alter],
+            Event::Create { process, count, mode } => {
+                [&[1, process, count][..], &mode.to_le_bytes()].concat()
+            }
             Event::Operate { process, identifier, wait, operations } => {
                 let kind = if wait.is_some() { 8 } else { 2 };
-                let mut body = [&[kind, process][..], &identifier.to_le_bytes()].concat();
+                let mut body = at_set(kind, process, identifier, &[]);
                 body.extend(wait.iter().flat_map(|wait| wait.to_le_bytes()));
                 body.push(u8::try_from(operations.len()).ok()?);
                 body.extend(operations.iter().flat_map(|operation| operation.to_bytes()));
                 body
             }
-            Event::SetValue { identifier, number, value } => {
-                let (identifier, number) = (identifier.to_le_bytes(), number.to_le_bytes());
-                [&[3][..], &identifier, &number, &value.to_le_bytes()].concat()
+            Event::SetValue { process, identifier, number, value } => {
+                let rest = [&number.to_le_bytes()[..], &value.to_le_bytes()].concat();
+                at_set(3, process, identifier, &rest)
             }
-            Event::Remove { identifier } => [&[4][..], &identifier.to_le_bytes()].concat(),
+            Event::Remove { process, identifier } => at_set(4, process, identifier, &[]),
             Event::Signal { process } => vec![5, process],
             Event::Exit { process } => vec![6, process],
-            Event::Query { identifier, number } => {
-                [&[7][..], &identifier.to_le_bytes(), &number.to_le_bytes()].concat()
+            Event::Query { process, identifier, number } => {
+                at_set(7, process, identifier, &number.to_le_bytes())
             }
             Event::Clock { time } => [&[9][..], &time.to_le_bytes()].concat(),
-            Event::SetAll { identifier, values } => {
+            Event::SetAll { process, identifier, values } => {
                 let count = u8::try_from(values.len()).ok()?;
-                let mut body = [&[10][..], &identifier.to_le_bytes(), &[count]].concat();
+                let mut body = at_set(10, process, identifier, &[count]);
                 body.extend(values.iter().flat_map(|value| value.to_le_bytes()));
                 body
             }
-            Event::ReadAll { identifier } => [&[11][..], &identifier.to_le_bytes()].concat(),
+            Event::ReadAll { process, identifier } => at_set(11, process, identifier, &[]),
+            Event::ActAs { process, user, group } => {
+                [&[12, process][..], &user.to_le_bytes(), &group.to_le_bytes()].concat()
+            }
         })
     }
 
@@ -146,7 +166,7 @@ impl Event<'_> {
     /// ```
     /// use vairolent::{Event, Host};
     ///
-    /// let event = Event::Query { identifier: 0, number: 0 };
+    /// let event = Event::Query { process: 1, identifier: 0, number: 0 };
     /// let told = Host::new().run(&event);
     /// assert_eq!(event.line(&told), "22 0 0 0 0");
     /// ```
@@ -181,6 +201,11 @@ impl Event<'_> {
             _ => " 0 0",
         }
     }
+}
+
+/// The body of a process's call at a set.
+fn at_set(kind: u8, process: u8, identifier: i32, rest: &[u8]) -> Vec<u8> {
+    [&[kind, process][..], &identifier.to_le_bytes(), rest].concat()
 }
 
 /// A code, with the position of the operation that decided, if one did.

@@ -1,4 +1,4 @@
-//! The host, and the ten events on it.
+//! The host, and the eleven events on it.
 
 use std::fmt;
 use std::mem::size_of_val;
@@ -11,8 +11,9 @@ use crate::operation::Operation;
 use crate::set::Set;
 use crate::wakings::Wakings;
 
-/// All that the service knows: the sets, the undo adjustments, the sleepers and the time last told.
-/// It is some two thousand bytes in itself, with nothing outside of it.
+/// All that the service knows: the sets, the undo adjustments, the sleepers, the users and groups of
+/// the processes, and the time last told. It is some two and a half thousand bytes in itself, with
+/// nothing outside of it.
 ///
 /// Only the events change a host, so it is always fresh or as the last event left it. That is the
 /// one premise of what is proved about them, and it holds of a clone too.
@@ -29,6 +30,23 @@ use crate::wakings::Wakings;
 ///
 /// A removal, a signal and [the clock](Host::clock) end sleepers without judging them.
 ///
+/// # What a process may do
+///
+/// Every event but a signal, an exit and the clock is the call of a process, which has to be awake.
+/// A process has a user and a group, which [`Host::act_as`] tells; both are 0 at first. A set has an
+/// owner and an owning group, which are those that its creator had then, and a mode of nine bits.
+///
+/// A process whose user is the owner goes by the first three bits of the mode; else one whose group
+/// is the owning group by the next three; any other by the last three. No process goes by the bits
+/// of a second class, even where they permit what its own deny. Of the three, 4 permits reading (an
+/// operation with amount 0, a query, a whole set), 2 altering (any other operation, a set value, a
+/// set all), and 1 is kept and permits nothing. A set is removed by its owner alone, whatever the
+/// mode. User 0 may do everything; group 0 is a group as any other. So `0o640` lets the owner read
+/// and alter, the group read, and others neither.
+///
+/// Permission is judged by the process's present numbers when a call begins, and not again at its
+/// waking.
+///
 /// # Equality
 ///
 /// Two hosts are equal exactly when they hold the same state. A host is nothing but how it holds
@@ -36,14 +54,14 @@ use crate::wakings::Wakings;
 /// the same, part by part, are the same row (`crates/host/proofs/Whole.antt#whole`).
 ///
 /// ```
-/// use vairolent::{Host, ALL};
+/// use vairolent::Host;
 ///
 /// let mut host = Host::new();
-/// let set = host.create(2, ALL, ALL)?;
+/// let set = host.create(1, 2, 0o666)?;
 /// let before = host.clone();
-/// let _ = host.set_value(set, 0, 5)?;
+/// let _ = host.set_value(1, set, 0, 5)?;
 /// assert_ne!(host, before);
-/// let _ = host.set_value(set, 0, 0)?;
+/// let _ = host.set_value(1, set, 0, 0)?;
 /// assert_eq!(host, before);
 /// # Ok::<(), vairolent::Error>(())
 /// ```
@@ -75,7 +93,8 @@ fn settled(told: Told, list: List) -> Result<(Told, Wakings), Error> {
 }
 
 impl Host {
-    /// A fresh host: four free slots, every adjustment at zero, no sleepers, and time 0.
+    /// A fresh host: four free slots, every adjustment at zero, every process of user 0 and group 0,
+    /// no sleepers, and time 0.
     ///
     /// # Panics
     ///
@@ -85,7 +104,7 @@ impl Host {
     /// use vairolent::{Error, Host};
     ///
     /// // There is no set yet.
-    /// assert_eq!(Host::new().query(0, 0), Err(Error::Invalid));
+    /// assert_eq!(Host::new().query(1, 0, 0), Err(Error::Invalid));
     /// ```
     pub fn new() -> Host {
         // SAFETY: It takes nothing, and has no premise.
@@ -98,27 +117,31 @@ impl Host {
 
     /// Makes a set of `count` semaphores at 0 in the lowest free slot, and gives its identifier.
     ///
-    /// The masks say which processes may read it and alter it; process p has bit p-1. The identifier
-    /// is slot + 4 x generation; the slot's generation goes up by one at each removal, from 65,535
-    /// round to 0, so that a very old identifier can match again.
+    /// Its owner and owning group are the process's user and group, and stay so; the mode says
+    /// [who may do what](Host#what-a-process-may-do). The identifier is slot + 4 x generation; the
+    /// slot's generation goes up by one at each removal, from 65,535 round to 0, so that a very old
+    /// identifier can match again.
     ///
     /// # Errors
     ///
     /// In the order of the checks:
     ///
-    /// - [`Error::Invalid`]: the count is 0 or over 8.
+    /// - [`Error::NoProcess`]: the process is not 1 to 8.
+    /// - [`Error::ProcessAsleep`]: the process is asleep.
+    /// - [`Error::Invalid`]: the count is 0 or over 8, or the mode is over 0o777.
     /// - [`Error::NoSlot`]: no slot is free.
     ///
     /// ```
-    /// use vairolent::{Error, Host, ALL};
+    /// use vairolent::{Error, Host};
     ///
     /// let mut host = Host::new();
-    /// assert_eq!(host.create(8, ALL, 0b0000_0011), Ok(0));
-    /// assert_eq!(host.create(1, ALL, ALL), Ok(1));
-    /// assert_eq!(host.create(9, ALL, ALL), Err(Error::Invalid));
+    /// assert_eq!(host.create(1, 8, 0o640), Ok(0));
+    /// assert_eq!(host.create(1, 3, 0o666), Ok(1));
+    /// assert_eq!(host.create(1, 9, 0o666), Err(Error::Invalid));
+    /// assert_eq!(host.create(1, 3, 0o1666), Err(Error::Invalid));
     /// ```
-    pub fn create(&mut self, count: u8, read: u8, alter: u8) -> Result<i32, Error> {
-        let (told, _) = lend!(self to vairolent_create_in(count, read, alter))?;
+    pub fn create(&mut self, process: u8, count: u8, mode: u16) -> Result<i32, Error> {
+        let (told, _) = lend!(self to vairolent_create_in(process, count, mode))?;
         // A slot and four times a generation, at most 262,143.
         Ok(told.value as i32)
     }
@@ -141,8 +164,8 @@ impl Host {
     /// - [`Error::TooManyOperations`]: there are over 32 operations.
     /// - [`Error::Invalid`]: the identifier names no live set.
     /// - [`Error::NoSemaphore`]: a semaphore number is at or above the set's count.
-    /// - [`Error::NotPermitted`]: the process has no alter bit and an amount is not zero, or it has
-    ///   no read bit and an amount is zero.
+    /// - [`Error::NotPermitted`]: an amount is not zero and altering is [not
+    ///   permitted](Host#what-a-process-may-do), or one is zero and reading is not.
     ///
     /// Then by the judging, from the operation that decides, and with its position:
     ///
@@ -151,11 +174,11 @@ impl Host {
     ///   the adjustment would leave -32,767 to 32,767.
     ///
     /// ```
-    /// use vairolent::{Answer, Ending, Host, Operation, Waking, ALL};
+    /// use vairolent::{Answer, Ending, Host, Operation, Waking};
     ///
     /// let mut host = Host::new();
-    /// let set = host.create(2, ALL, ALL)?;
-    /// let _ = host.set_value(set, 0, 1)?;
+    /// let set = host.create(1, 2, 0o666)?;
+    /// let _ = host.set_value(1, set, 0, 1)?;
     /// // Semaphore 0 has the 1 that is taken, but semaphore 1 has not.
     /// let take = [Operation::new(0, -1), Operation::new(1, -1)];
     /// assert_eq!(host.operate(1, set, &take)?, Answer::Asleep { position: 1 });
@@ -189,10 +212,10 @@ impl Host {
     /// - [`Error::WouldSleep`], with the position of the operation that stops.
     ///
     /// ```
-    /// use vairolent::{Answer, Error, Host, Operation, ALL};
+    /// use vairolent::{Answer, Error, Host, Operation};
     ///
     /// let mut host = Host::new();
-    /// let set = host.create(1, ALL, ALL)?;
+    /// let set = host.create(1, 1, 0o666)?;
     /// let take = [Operation::new(0, -1)];
     /// assert_eq!(host.operate_within(1, set, &take, 0), Err(Error::WouldSleep { position: 0 }));
     /// assert_eq!(host.operate_within(1, set, &take, 500)?, Answer::Asleep { position: 0 });
@@ -238,28 +261,33 @@ impl Host {
     ///
     /// In the order of the checks:
     ///
+    /// - [`Error::NoProcess`]: the process is not 1 to 8.
+    /// - [`Error::ProcessAsleep`]: the process is asleep.
     /// - [`Error::Invalid`]: the identifier names no live set.
+    /// - [`Error::NotPermitted`]: altering is [not permitted](Host#what-a-process-may-do).
     /// - [`Error::Invalid`]: the number is at or above the set's count.
     /// - [`Error::BadValue`]: the value is not 0 to 32,767.
     ///
     /// ```
-    /// use vairolent::{Answer, Host, Operation, ALL};
+    /// use vairolent::{Answer, Host, Operation};
     ///
     /// let mut host = Host::new();
-    /// let set = host.create(1, ALL, ALL)?;
-    /// assert_eq!(host.operate(1, set, &[Operation::new(0, -3)])?, Answer::Asleep { position: 0 });
-    /// assert_eq!(host.set_value(set, 0, 2)?.len(), 0);
-    /// assert_eq!(host.set_value(set, 0, 4)?.len(), 1);
-    /// assert_eq!(host.query(set, 0)?.value, 1);
+    /// let set = host.create(1, 1, 0o666)?;
+    /// assert_eq!(host.operate(2, set, &[Operation::new(0, -3)])?, Answer::Asleep { position: 0 });
+    /// assert_eq!(host.set_value(1, set, 0, 2)?.len(), 0);
+    /// assert_eq!(host.set_value(1, set, 0, 4)?.len(), 1);
+    /// assert_eq!(host.query(1, set, 0)?.value, 1);
     /// # Ok::<(), vairolent::Error>(())
     /// ```
     pub fn set_value(
         &mut self,
+        process: u8,
         identifier: i32,
         number: u16,
         value: i32,
     ) -> Result<Wakings, Error> {
-        let (_, wakings) = lend!(self to vairolent_set_value_in(identifier, number, value))?;
+        let (_, wakings) =
+            lend!(self to vairolent_set_value_in(process, identifier, number, value))?;
         Ok(wakings)
     }
 
@@ -274,29 +302,37 @@ impl Host {
     ///
     /// In the order of the checks:
     ///
+    /// - [`Error::NoProcess`]: the process is not 1 to 8.
+    /// - [`Error::ProcessAsleep`]: the process is asleep.
     /// - [`Error::Invalid`]: the identifier names no live set.
+    /// - [`Error::NotPermitted`]: altering is [not permitted](Host#what-a-process-may-do).
     /// - [`Error::Invalid`]: the number of values is not the set's count.
     /// - [`Error::BadValue`]: one of the values is not 0 to 32,767.
     ///
     /// ```
-    /// use vairolent::{Answer, Ending, Host, Operation, Waking, ALL};
+    /// use vairolent::{Answer, Ending, Host, Operation, Waking};
     ///
     /// let mut host = Host::new();
-    /// let set = host.create(2, ALL, ALL)?;
-    /// let _ = host.set_all(set, &[0, 7])?;
+    /// let set = host.create(2, 2, 0o666)?;
+    /// let _ = host.set_all(2, set, &[0, 7])?;
     /// // Process 1 waits for the first semaphore, but not for the second.
     /// let operations = [Operation::new(0, -1), Operation::new(1, 0).nowait()];
     /// assert_eq!(host.operate(1, set, &operations)?, Answer::Asleep { position: 0 });
     /// // By the first value alone it would end with EAGAIN.
-    /// let mut wakings = host.set_all(set, &[5, 0])?;
+    /// let mut wakings = host.set_all(2, set, &[5, 0])?;
     /// assert_eq!(wakings.next(), Some(Waking { process: 1, ending: Ending::Done }));
     /// # Ok::<(), vairolent::Error>(())
     /// ```
-    pub fn set_all(&mut self, identifier: i32, values: &[i32]) -> Result<Wakings, Error> {
+    pub fn set_all(
+        &mut self,
+        process: u8,
+        identifier: i32,
+        values: &[i32],
+    ) -> Result<Wakings, Error> {
         let bytes = size_of_val(values);
         // They lie in memory as the archive takes them: the platform is little-endian.
         let values = values.as_ptr().cast();
-        let (_, wakings) = lend!(self to vairolent_set_all_in(identifier, values, bytes))?;
+        let (_, wakings) = lend!(self to vairolent_set_all_in(process, identifier, values, bytes))?;
         Ok(wakings)
     }
 
@@ -305,21 +341,26 @@ impl Host {
     ///
     /// # Errors
     ///
+    /// In the order of the checks:
+    ///
+    /// - [`Error::NoProcess`]: the process is not 1 to 8.
+    /// - [`Error::ProcessAsleep`]: the process is asleep.
     /// - [`Error::Invalid`]: the identifier names no live set.
+    /// - [`Error::NotOwner`]: the process is neither of the set's owner nor of user 0.
     ///
     /// ```
-    /// use vairolent::{Answer, Ending, Error, Host, Operation, Waking, ALL};
+    /// use vairolent::{Answer, Ending, Error, Host, Operation, Waking};
     ///
     /// let mut host = Host::new();
-    /// let set = host.create(1, ALL, ALL)?;
+    /// let set = host.create(1, 1, 0o666)?;
     /// assert_eq!(host.operate(5, set, &[Operation::new(0, -1)])?, Answer::Asleep { position: 0 });
-    /// let mut wakings = host.remove(set)?;
+    /// let mut wakings = host.remove(1, set)?;
     /// assert_eq!(wakings.next(), Some(Waking { process: 5, ending: Ending::Removed }));
-    /// assert_eq!(host.remove(set), Err(Error::Invalid));
+    /// assert_eq!(host.remove(1, set), Err(Error::Invalid));
     /// # Ok::<(), vairolent::Error>(())
     /// ```
-    pub fn remove(&mut self, identifier: i32) -> Result<Wakings, Error> {
-        let (_, wakings) = lend!(self to vairolent_remove_in(identifier))?;
+    pub fn remove(&mut self, process: u8, identifier: i32) -> Result<Wakings, Error> {
+        let (_, wakings) = lend!(self to vairolent_remove_in(process, identifier))?;
         Ok(wakings)
     }
 
@@ -332,10 +373,10 @@ impl Host {
     /// - [`Error::NoProcess`]: the process is not 1 to 8.
     ///
     /// ```
-    /// use vairolent::{Answer, Ending, Host, Operation, Waking, ALL};
+    /// use vairolent::{Answer, Ending, Host, Operation, Waking};
     ///
     /// let mut host = Host::new();
-    /// let set = host.create(1, ALL, ALL)?;
+    /// let set = host.create(5, 1, 0o666)?;
     /// assert_eq!(host.operate(5, set, &[Operation::new(0, -1)])?, Answer::Asleep { position: 0 });
     /// let mut wakings = host.signal(5)?;
     /// assert_eq!(wakings.next(), Some(Waking { process: 5, ending: Ending::Interrupted }));
@@ -350,21 +391,22 @@ impl Host {
     /// Ends a process. If it is asleep, its call is taken out without a waking.
     ///
     /// Then each of its adjustments is added to its semaphore, cut to 0 to 32,767, and put to zero;
-    /// and [sleepers are woken](Host), set by set from slot 0 up. The last processes stay.
+    /// and [sleepers are woken](Host), set by set from slot 0 up. The last processes stay, and so do
+    /// the user and group, for the next process by that number: [`Host::act_as`] tells others.
     ///
     /// # Errors
     ///
     /// - [`Error::NoProcess`]: the process is not 1 to 8.
     ///
     /// ```
-    /// use vairolent::{Host, Operation, ALL};
+    /// use vairolent::{Host, Operation};
     ///
     /// let mut host = Host::new();
-    /// let set = host.create(1, ALL, ALL)?;
+    /// let set = host.create(1, 1, 0o666)?;
     /// let _ = host.operate(1, set, &[Operation::new(0, 7).undo()])?;
-    /// assert_eq!(host.query(set, 0)?.value, 7);
+    /// assert_eq!(host.query(2, set, 0)?.value, 7);
     /// assert_eq!(host.exit(1)?.len(), 0);
-    /// assert_eq!(host.query(set, 0)?.value, 0);
+    /// assert_eq!(host.query(2, set, 0)?.value, 0);
     /// # Ok::<(), vairolent::Error>(())
     /// ```
     pub fn exit(&mut self, process: u8) -> Result<Wakings, Error> {
@@ -372,8 +414,8 @@ impl Host {
         Ok(wakings)
     }
 
-    /// Tells the present time, in milliseconds since any moment that the caller keeps to; a fresh host
-    /// was told 0.
+    /// Tells the present time, in milliseconds since any moment that the program keeps to; a fresh
+    /// host was told 0.
     ///
     /// Every sleeper with a wait whose start plus wait, as an exact sum, is at or below it is ended
     /// with [`Ending::TimedOut`](crate::Ending::TimedOut), oldest first over all sets, without a look.
@@ -386,10 +428,10 @@ impl Host {
     ///   It is not told then.
     ///
     /// ```
-    /// use vairolent::{Answer, Ending, Error, Host, Operation, Waking, ALL};
+    /// use vairolent::{Answer, Ending, Error, Host, Operation, Waking};
     ///
     /// let mut host = Host::new();
-    /// let set = host.create(1, ALL, ALL)?;
+    /// let set = host.create(5, 1, 0o666)?;
     /// assert_eq!(host.clock(70_000)?.len(), 0);
     /// let take = [Operation::new(0, -1)];
     /// assert_eq!(host.operate_within(5, set, &take, 250)?, Answer::Asleep { position: 0 });
@@ -404,29 +446,63 @@ impl Host {
         told.map(|(_, wakings)| wakings).map_err(|_| Error::BadTime)
     }
 
+    /// Tells the user and the group of a process, by which [its calls are
+    /// permitted](Host#what-a-process-may-do) from then on. No permission is asked for it. The sets
+    /// that the process has made keep their owner and owning group.
+    ///
+    /// # Errors
+    ///
+    /// In the order of the checks:
+    ///
+    /// - [`Error::NoProcess`]: the process is not 1 to 8.
+    /// - [`Error::ProcessAsleep`]: the process is asleep.
+    ///
+    /// ```
+    /// use vairolent::{Error, Host};
+    ///
+    /// let mut host = Host::new();
+    /// host.act_as(1, 1_000, 100)?;
+    /// host.act_as(2, 2_000, 100)?;
+    /// let set = host.create(1, 1, 0o640)?;
+    /// assert!(host.query(2, set, 0).is_ok());
+    /// assert_eq!(host.set_value(2, set, 0, 1), Err(Error::NotPermitted));
+    /// assert_eq!(host.remove(2, set), Err(Error::NotOwner));
+    /// host.act_as(2, 1_000, 300)?;
+    /// assert!(host.remove(2, set).is_ok());
+    /// # Ok::<(), vairolent::Error>(())
+    /// ```
+    pub fn act_as(&mut self, process: u8, user: u32, group: u32) -> Result<(), Error> {
+        // It wakes nobody.
+        lend!(self to vairolent_act_as_in(process, user, group)).map(drop)
+    }
+
     /// Shows a semaphore: its value, its last process, and who waits there.
     ///
     /// # Errors
     ///
     /// In the order of the checks:
     ///
+    /// - [`Error::NoProcess`]: the process is not 1 to 8.
+    /// - [`Error::ProcessAsleep`]: the process is asleep.
     /// - [`Error::Invalid`]: the identifier names no live set.
+    /// - [`Error::NotPermitted`]: reading is [not permitted](Host#what-a-process-may-do).
     /// - [`Error::Invalid`]: the number is at or above the set's count.
     ///
     /// ```
-    /// use vairolent::{Answer, Host, Operation, ALL};
+    /// use vairolent::{Answer, Host, Operation};
     ///
     /// let mut host = Host::new();
-    /// let set = host.create(1, ALL, ALL)?;
+    /// let set = host.create(1, 1, 0o666)?;
     /// assert_eq!(host.operate(3, set, &[Operation::new(0, -1)])?, Answer::Asleep { position: 0 });
-    /// let semaphore = host.query(set, 0)?;
+    /// let semaphore = host.query(1, set, 0)?;
     /// assert_eq!((semaphore.increase, semaphore.increase_mask), (1, 0b0000_0100));
     /// # Ok::<(), vairolent::Error>(())
     /// ```
-    pub fn query(&self, identifier: i32, number: u16) -> Result<Semaphore, Error> {
+    pub fn query(&self, process: u8, identifier: i32, number: u16) -> Result<Semaphore, Error> {
         let Host { row, adjustments } = self;
         // SAFETY: The host is fresh or as the last event left it, since its parts are private.
-        let seen = unsafe { archive::vairolent_query_in(row, adjustments, identifier, number) };
+        let seen =
+            unsafe { archive::vairolent_query_in(row, adjustments, process, identifier, number) };
         Error::check(seen.code, None)?;
         Ok(Semaphore {
             value: seen.value,
@@ -447,17 +523,22 @@ impl Host {
     ///
     /// # Errors
     ///
+    /// In the order of the checks:
+    ///
+    /// - [`Error::NoProcess`]: the process is not 1 to 8.
+    /// - [`Error::ProcessAsleep`]: the process is asleep.
     /// - [`Error::Invalid`]: the identifier names no live set.
+    /// - [`Error::NotPermitted`]: reading is [not permitted](Host#what-a-process-may-do).
     ///
     /// ```
-    /// use vairolent::{Answer, Host, Operation, ALL};
+    /// use vairolent::{Answer, Host, Operation};
     ///
     /// let mut host = Host::new();
-    /// let set = host.create(3, ALL, ALL)?;
+    /// let set = host.create(1, 3, 0o666)?;
     /// assert_eq!(host.operate(3, set, &[Operation::new(0, -1)])?, Answer::Asleep { position: 0 });
     /// assert_eq!(host.operate(5, set, &[Operation::new(2, -1)])?, Answer::Asleep { position: 0 });
-    /// let _ = host.set_all(set, &[0, 4, 0])?;
-    /// let seen = host.query_set(set)?;
+    /// let _ = host.set_all(1, set, &[0, 4, 0])?;
+    /// let seen = host.query_set(1, set)?;
     /// let values: Vec<u16> = seen.semaphores().iter().map(|each| each.value).collect();
     /// assert_eq!(values, [0, 4, 0]);
     /// let waiting: Vec<u32> = seen.semaphores().iter().map(|each| each.increase).collect();
@@ -465,10 +546,11 @@ impl Host {
     /// assert_eq!(seen.judged(), 2);
     /// # Ok::<(), vairolent::Error>(())
     /// ```
-    pub fn query_set(&self, identifier: i32) -> Result<Set, Error> {
+    pub fn query_set(&self, process: u8, identifier: i32) -> Result<Set, Error> {
         let Host { row, adjustments } = self;
         // SAFETY: The host is fresh or as the last event left it, since its parts are private.
-        let seen = unsafe { archive::vairolent_query_set_in(row, adjustments, identifier) };
+        let seen =
+            unsafe { archive::vairolent_query_set_in(row, adjustments, process, identifier) };
         Error::check(seen.code, None)?;
         Ok(Set::new(&seen))
     }
@@ -479,10 +561,10 @@ impl Host {
     /// A set's slot is its identifier modulo 4.
     ///
     /// ```
-    /// use vairolent::{Host, Operation, ALL};
+    /// use vairolent::{Host, Operation};
     ///
     /// let mut host = Host::new();
-    /// let set = host.create(2, ALL, ALL)?;
+    /// let set = host.create(3, 2, 0o666)?;
     /// let _ = host.operate(3, set, &[Operation::new(1, 5).undo()])?;
     /// assert_eq!(host.adjustments(3)[0][..2], [0, -5]);
     /// assert_eq!(host.adjustments(4), [[0; 8]; 4]);

@@ -8,13 +8,14 @@
 //! Two predictors write to one table. A semaphore says whether it is free:
 //!
 //! ```
-//! use vairolent::{Answer, Host, Operation, ALL};
+//! use vairolent::{Answer, Host, Operation};
 //!
 //! let take = [Operation::new(0, -1).undo()];
 //! let mut host = Host::new();
-//! // A set of one semaphore, for all to read and alter. At 1 it says that the table is free.
-//! let table = host.create(1, ALL, ALL)?;
-//! let _ = host.set_value(table, 0, 1)?;
+//! // Predictor 1 makes a set of one semaphore, for all to read and alter. At 1 it says that the
+//! // table is free.
+//! let table = host.create(1, 1, 0o666)?;
+//! let _ = host.set_value(1, table, 0, 1)?;
 //! // Predictor 1 takes the table; predictor 2 has to sleep until it is free.
 //! assert!(matches!(host.operate(1, table, &take)?, Answer::Done(_)));
 //! assert_eq!(host.operate(2, table, &take)?, Answer::Asleep { position: 0 });
@@ -34,12 +35,12 @@
 //! events.
 //!
 //! ```
-//! use vairolent::{Error, Host, Operation, ALL};
+//! use vairolent::{Error, Host, Operation};
 //!
 //! let mut host = Host::new();
-//! let set = host.create(3, ALL, ALL)?;
+//! let set = host.create(1, 3, 0o666)?;
 //! let operations = [2, 0, 1].map(|number| Operation::new(number, -1).nowait());
-//! let _ = host.set_value(set, 2, 1)?;
+//! let _ = host.set_value(1, set, 2, 1)?;
 //! match host.operate(1, set, &operations) {
 //!     Err(Error::WouldSleep { position }) => assert_eq!(operations[position].number, 0),
 //!     other => panic!("semaphore 0 is at 0: {other:?}"),
@@ -55,10 +56,10 @@
 //! moment.
 //!
 //! ```
-//! use vairolent::{Answer, Ending, Host, Operation, Waking, ALL};
+//! use vairolent::{Answer, Ending, Host, Operation, Waking};
 //!
 //! let mut host = Host::new();
-//! let table = host.create(1, ALL, ALL)?;
+//! let table = host.create(1, 1, 0o666)?;
 //! // Who has the table is dead, and nobody knows. Predictor 2 waits for three seconds.
 //! let take = [Operation::new(0, -1)];
 //! assert_eq!(host.operate_within(2, table, &take, 3_000)?, Answer::Asleep { position: 0 });
@@ -77,14 +78,34 @@
 //! it who waits there.
 //!
 //! ```
-//! use vairolent::{Host, ALL};
+//! use vairolent::Host;
 //!
 //! let mut host = Host::new();
-//! let set = host.create(3, ALL, ALL)?;
-//! let _ = host.set_all(set, &[4, 0, 1])?; // nobody sleeps yet
-//! let seen = host.query_set(set)?;
+//! let set = host.create(1, 3, 0o666)?;
+//! let _ = host.set_all(1, set, &[4, 0, 1])?; // nobody sleeps yet
+//! let seen = host.query_set(1, set)?;
 //! let values: Vec<u16> = seen.semaphores().iter().map(|semaphore| semaphore.value).collect();
 //! assert_eq!(values, [4, 0, 1]);
+//! # Ok::<(), vairolent::Error>(())
+//! ```
+//!
+//! # Owners and modes
+//!
+//! A set belongs to the user and the group of the process that makes it, and its mode says what its
+//! owner, its group and all others may do, as that of a file does. A host does not know who its
+//! processes are: [`Host::act_as`] tells it. Who is not told of is user 0, who may do everything.
+//!
+//! ```
+//! use vairolent::{Error, Host};
+//!
+//! let mut host = Host::new();
+//! // User 1000 and user 2000, both of group 100.
+//! host.act_as(1, 1_000, 100)?;
+//! host.act_as(2, 2_000, 100)?;
+//! let set = host.create(1, 1, 0o640)?;
+//! // Its group may read it, and not alter it.
+//! assert_eq!(host.query(2, set, 0)?.value, 0);
+//! assert_eq!(host.set_value(2, set, 0, 1), Err(Error::NotPermitted));
 //! # Ok::<(), vairolent::Error>(())
 //! ```
 //!
@@ -121,7 +142,7 @@ pub use answers::{Answer, Semaphore};
 pub use error::Error;
 pub use event::{Event, Told};
 pub use host::Host;
-pub use limits::{ALL, OPERATIONS, PROCESSES, SEMAPHORES, SETS, TIME_MAX, VALUE_MAX};
+pub use limits::{MODE_MAX, OPERATIONS, PROCESSES, SEMAPHORES, SETS, TIME_MAX, VALUE_MAX};
 pub use operation::Operation;
 pub use set::Set;
 pub use wakings::{Ending, Waking, Wakings};

@@ -15,8 +15,8 @@ pub const OPERATIONS: usize = 32;
 /// The largest value of a semaphore; the smallest is 0.
 pub const VALUE_MAX: u16 = 32_767;
 
+/// The largest mode of a set: nine bits.
+pub const MODE_MAX: u16 = 0o777;
+
 /// The last time that can be told, in milliseconds: 2^63-1. The first is 0.
 pub const TIME_MAX: u64 = i64::MAX as u64;
-
-/// The mask of all processes. In a mask process p has bit p-1.
-pub const ALL: u8 = u8::MAX;

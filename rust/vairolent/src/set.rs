@@ -10,14 +10,14 @@ use crate::limits::SEMAPHORES;
 /// A whole set: each of its semaphores as a query shows it.
 ///
 /// ```
-/// use vairolent::{Answer, Host, Operation, ALL};
+/// use vairolent::{Answer, Host, Operation};
 ///
 /// let mut host = Host::new();
-/// let set = host.create(2, ALL, ALL)?;
+/// let set = host.create(4, 2, 0o666)?;
 /// let _ = host.operate(4, set, &[Operation::new(0, 1)])?;
 /// assert_eq!(host.operate(3, set, &[Operation::new(1, -1)])?, Answer::Asleep { position: 0 });
 /// assert_eq!(
-///     host.query_set(set)?.to_string(),
+///     host.query_set(4, set)?.to_string(),
 ///     "0: value 1, last process 4, waiting 0 for increase, 0 for zero\n\
 ///      1: value 0, last process 0, waiting 1 for increase, 0 for zero\n"
 /// );

@@ -26,14 +26,14 @@ coded! {
     /// which the call went to sleep.
     ///
     /// ```
-    /// use vairolent::{Answer, Ending, Host, Operation, ALL};
+    /// use vairolent::{Answer, Ending, Host, Operation};
     ///
     /// let mut host = Host::new();
-    /// let set = host.create(2, ALL, ALL)?;
+    /// let set = host.create(2, 2, 0o666)?;
     /// let operations = [Operation::new(0, 5), Operation::new(1, -1)];
     /// assert_eq!(host.operate(1, set, &operations)?, Answer::Asleep { position: 1 });
     /// // There is no room for 5 any more.
-    /// let waking = host.set_value(set, 0, 32_765)?.next().expect("process 1");
+    /// let waking = host.set_value(2, set, 0, 32_765)?.next().expect("process 1");
     /// assert_eq!(waking.ending, Ending::OutOfRange { position: 0 });
     /// # Ok::<(), vairolent::Error>(())
     /// ```
@@ -81,15 +81,15 @@ pub struct Waking {
 /// Two are equal if they have the same looks and the same wakings to come.
 ///
 /// ```
-/// use vairolent::{Answer, Ending, Host, Operation, ALL};
+/// use vairolent::{Answer, Ending, Host, Operation};
 ///
 /// let mut host = Host::new();
-/// let set = host.create(1, ALL, ALL)?;
+/// let set = host.create(1, 1, 0o666)?;
 /// for process in [3, 5] {
 ///     let answer = host.operate(process, set, &[Operation::new(0, -1)])?;
 ///     assert_eq!(answer, Answer::Asleep { position: 0 });
 /// }
-/// let wakings = host.set_value(set, 0, 1)?;
+/// let wakings = host.set_value(1, set, 0, 1)?;
 /// // Process 3 takes the 1 and is woken; process 5 is judged and sleeps on.
 /// assert_eq!((wakings.len(), wakings.looks()), (1, 2));
 /// for waking in wakings {
@@ -108,6 +108,11 @@ impl Wakings {
     /// The first so many of a list.
     pub(crate) fn new(list: List, woken: usize, looks: usize) -> Wakings {
         Wakings { rest: list.into_iter().take(woken), looks }
+    }
+
+    /// Those of an event that judges and wakes nobody.
+    pub(crate) fn none() -> Wakings {
+        Wakings::new(List::default(), 0, 0)
     }
 
     /// The looks of the event: how many times it judged a sleeper. Taking wakings out does not

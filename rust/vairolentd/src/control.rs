@@ -2,7 +2,7 @@
 
 use vairolent::{Event, Told, OPERATIONS, PROCESSES, SEMAPHORES, SETS, VALUE_MAX};
 
-use crate::caller::Caller;
+use crate::caller::{Caller, Role};
 use crate::clock;
 use crate::daemon::Daemon;
 use crate::errno::{Errno, EINVAL, EPERM};
@@ -50,24 +50,12 @@ impl Daemon {
                 set.permits(caller, asked)?;
                 Ok(Reply::with(set.identifier, status(set)))
             }
-            command::REMOVE => {
-                self.sets.find(call.identifier)?.owned_by(caller)?;
-                self.remove(call.identifier)
-            }
+            command::REMOVE => Ok(self.remove(caller, call.identifier)),
             // Owner and mode stay as they were made.
             command::CHANGE => self.sets.find(call.identifier).and(Err(EPERM)),
-            command::GET_ALL => {
-                self.permitted(caller, call.identifier, READ)?;
-                self.read_all(call.identifier)
-            }
-            command::GET_PID..=command::GET_ZERO => {
-                self.permitted(caller, call.identifier, READ)?;
-                self.query(call)
-            }
-            command::SET_VALUE | command::SET_ALL => {
-                self.permitted(caller, call.identifier, ALTER)?;
-                self.set(call)
-            }
+            command::GET_ALL => self.read_all(caller, call.identifier),
+            command::GET_PID..=command::GET_ZERO => self.query(caller, call),
+            command::SET_VALUE | command::SET_ALL => self.set(caller, call),
             _ => Err(EINVAL),
         }
     }
@@ -78,22 +66,24 @@ impl Daemon {
         Ok(Reply::of(set.count as i32))
     }
 
-    fn permitted(&self, caller: &Caller, identifier: i32, asked: u32) -> Result<&Set, Errno> {
+    fn permitted(&self, caller: &Caller, identifier: i32, asked: u16) -> Result<&Set, Errno> {
         let set = self.sets.find(identifier)?;
         set.permits(caller, asked).map(|()| set)
     }
 
-    fn remove(&mut self, identifier: i32) -> Result<Reply, Errno> {
-        let code = self.settle(&Event::Remove { identifier });
+    fn remove(&mut self, caller: &Caller, identifier: i32) -> Reply {
+        let process = self.number_at(identifier, caller);
+        let code = self.settle(&Event::Remove { process, identifier });
         if code == 0 {
             self.sets.remove(identifier);
         }
-        Ok(Reply::ended(code))
+        Reply::ended(code)
     }
 
-    fn query(&mut self, call: &Control) -> Result<Reply, Errno> {
+    fn query(&mut self, caller: &Caller, call: &Control) -> Result<Reply, Errno> {
         let (identifier, number) = (call.identifier, number(call.number));
-        let seen = match self.engine.run(&Event::Query { identifier, number }) {
+        let process = self.number_at(identifier, caller);
+        let seen = match self.engine.run(&Event::Query { process, identifier, number }) {
             Told::Seen(seen) => seen,
             Told::Refused(error) => return Err(Errno(error.code())),
             _ => unreachable!("a query shows or is refused"),
@@ -106,8 +96,9 @@ impl Daemon {
         }))
     }
 
-    fn read_all(&mut self, identifier: i32) -> Result<Reply, Errno> {
-        match self.engine.run(&Event::ReadAll { identifier }) {
+    fn read_all(&mut self, caller: &Caller, identifier: i32) -> Result<Reply, Errno> {
+        let process = self.number_at(identifier, caller);
+        match self.engine.run(&Event::ReadAll { process, identifier }) {
             Told::Read(set) => {
                 let values = set.semaphores().iter().flat_map(|each| each.value.to_le_bytes());
                 Ok(Reply::with(0, values.collect()))
@@ -117,15 +108,16 @@ impl Daemon {
         }
     }
 
-    fn set(&mut self, call: &Control) -> Result<Reply, Errno> {
-        let identifier = call.identifier;
+    fn set(&mut self, caller: &Caller, call: &Control) -> Result<Reply, Errno> {
+        let (identifier, number) = (call.identifier, number(call.number));
+        let process = self.number_at(identifier, caller);
         let code = if call.command == command::SET_VALUE {
             let value = i32::from_le_bytes(call.data.try_into().map_err(|_| EINVAL)?);
-            self.settle(&Event::SetValue { identifier, number: number(call.number), value })
+            self.settle(&Event::SetValue { process, identifier, number, value })
         } else {
             let value = |two: &[u8]| i32::from(u16::from_le_bytes([two[0], two[1]]));
             let values: Vec<i32> = call.data.chunks_exact(2).map(value).collect();
-            self.settle(&Event::SetAll { identifier, values: &values })
+            self.settle(&Event::SetAll { process, identifier, values: &values })
         };
         if code == 0 {
             self.sets.find_mut(identifier)?.changed = clock::wall();
@@ -168,8 +160,9 @@ fn number(number: i32) -> u16 {
 /// A struct status of the protocol.
 fn status(set: &Set) -> Vec<u8> {
     let generation = set.identifier as u32 / SETS as u32;
-    let (key, count) = (set.key as u32, set.count as u32);
-    let words = [key, set.user, set.group, set.user, set.group, set.mode, generation, count];
+    let Role { user, group } = set.owner;
+    let (key, mode, count) = (set.key as u32, set.mode.into(), set.count as u32);
+    let words = [key, user, group, user, group, mode, generation, count];
     let times = [set.operated, set.changed];
     let words = words.iter().flat_map(|word| word.to_le_bytes());
     words.chain(times.iter().flat_map(|time| time.to_le_bytes())).collect()

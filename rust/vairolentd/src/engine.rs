@@ -3,6 +3,7 @@
 use vairolent::{Event, Host, Told};
 
 use crate::beginning::Beginning;
+use crate::caller::Role;
 use crate::known::Known;
 use crate::record::Record;
 
@@ -24,29 +25,21 @@ impl Engine {
     /// Hands an event in and records it.
     pub fn run(&mut self, event: &Event) -> Told {
         let body = event.body().expect("no packet has so many operations or values");
-        self.make_room(&body);
-        self.hand_in(event, &body)
-    }
-
-    /// Hands an event in whose process is the one with this pid.
-    pub fn run_by(&mut self, process: u8, pid: i32, event: &Event) -> Told {
-        let body = event.body().expect("no packet has so many operations or values");
-        self.make_room(&body);
-        self.record.name(process, pid);
-        self.hand_in(event, &body)
-    }
-
-    fn make_room(&mut self, body: &[u8]) {
-        if !self.record.fits(body) {
+        if !self.record.fits(&body) {
             self.record.next(Beginning::of(&self.host, &self.known, BEGINNING_MAX));
         }
-    }
-
-    fn hand_in(&mut self, event: &Event, body: &[u8]) -> Told {
         let told = self.host.run(event);
         self.known.note(event, &told);
-        self.record.add(body, || event.line(&told));
+        self.record.add(&body, || event.line(&told));
         told
+    }
+
+    /// From now on a number that is awake acts as this. Where it does already, there is no event.
+    pub fn act_as(&mut self, process: u8, role: Role) {
+        if let Some(event) = self.known.change(process, role) {
+            let told = self.run(&event);
+            assert!(matches!(told, Told::Done(_)), "only a sleeper is refused: {told:?}");
+        }
     }
 
     /// What an event would tell, on a host that it leaves so; nothing happens.

@@ -5,7 +5,7 @@
 #[derive(Clone, Copy, Debug, PartialEq, Eq)]
 pub struct Errno(pub i32);
 
-/// Only the owner may do this.
+/// Nobody may change whose a set is, or its mode.
 pub const EPERM: Errno = Errno(1);
 /// No set has the key.
 pub const ENOENT: Errno = Errno(2);

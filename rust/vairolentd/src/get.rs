@@ -1,6 +1,6 @@
 //! semget: the set of a key, or a new one.
 
-use vairolent::{Event, Told, ALL, SEMAPHORES};
+use vairolent::{Event, Told, SEMAPHORES};
 
 use crate::caller::Caller;
 use crate::clock;
@@ -15,11 +15,12 @@ impl Daemon {
     /// The identifier, as Linux finds or makes it.
     pub fn get(&mut self, caller: &Caller, key: i32, count: i32, flags: i32) -> Result<i32, Errno> {
         match self.sets.with_key(key) {
+            _ if count < 0 => Err(EINVAL),
             Some(_) if flags & (CREATE | EXCLUSIVE) == CREATE | EXCLUSIVE => Err(EEXIST),
-            Some(set) if count < 0 || count as usize > set.count => Err(EINVAL),
+            Some(set) if count as usize > set.count => Err(EINVAL),
             Some(set) => {
                 // Whatever any class is to have, the caller must have.
-                let asked = (flags | flags >> 3 | flags >> 6) as u32 & 7;
+                let asked = (flags | flags >> 3 | flags >> 6) as u16;
                 set.permits(caller, asked).map(|()| set.identifier)
             }
             None if key != PRIVATE && flags & CREATE == 0 => Err(ENOENT),
@@ -30,7 +31,9 @@ impl Daemon {
     fn create(&mut self, caller: &Caller, key: i32, count: i32, flags: i32) -> Result<i32, Errno> {
         // Every number over the most is refused alike.
         let count = u8::try_from(count).unwrap_or(u8::MAX);
-        let identifier = match self.engine.run(&Event::Create { count, read: ALL, alter: ALL }) {
+        let mode = flags as u16 & 0o777;
+        let process = self.number_for(caller, caller.role);
+        let identifier = match self.engine.run(&Event::Create { process, count, mode }) {
             Told::Made(identifier) => identifier,
             Told::Refused(error) => return Err(Errno(error.code())),
             _ => unreachable!("a create is made or refused"),
@@ -38,9 +41,8 @@ impl Daemon {
         self.sets.add(Set {
             identifier,
             key,
-            user: caller.user,
-            group: caller.group,
-            mode: flags as u32 & 0o777,
+            owner: caller.role,
+            mode,
             count: count.into(),
             operated: 0,
             changed: clock::wall(),

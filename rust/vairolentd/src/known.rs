@@ -1,7 +1,10 @@
 //! What has to be known beside a host to build it again from a fresh one: who sleeps, on what and
-//! since when, the time, and how often each slot was freed. All of it is read off the events.
+//! since when, the time, as whom each number acts, whose each set is, and how often each slot was
+//! freed. All of it is read off the events.
 
-use vairolent::{Event, Operation, Told, Wakings, SETS};
+use vairolent::{Event, Operation, Told, Wakings, PROCESSES, SETS};
+
+use crate::caller::Role;
 
 /// A call that sleeps.
 #[derive(Clone, Debug, PartialEq, Eq)]
@@ -20,15 +23,25 @@ impl Asleep {
     }
 }
 
+/// A live set.
+#[derive(Clone, Copy, Debug, PartialEq, Eq)]
+pub struct Live {
+    pub identifier: i32,
+    pub owner: Role,
+    pub mode: u16,
+}
+
 #[derive(Default)]
 pub struct Known {
     /// Oldest first.
     pub asleep: Vec<Asleep>,
     /// The time told last.
     pub time: u64,
+    /// By the numbers from 1 on.
+    pub roles: [Role; PROCESSES],
     /// Of each slot how often it was freed, and its set.
     pub freed: [u32; SETS],
-    pub live: [Option<i32>; SETS],
+    pub live: [Option<Live>; SETS],
 }
 
 fn slot(identifier: i32) -> usize {
@@ -36,6 +49,17 @@ fn slot(identifier: i32) -> usize {
 }
 
 impl Known {
+    /// As whom a number acts.
+    pub fn role(&self, process: u8) -> Role {
+        self.roles[usize::from(process) - 1]
+    }
+
+    /// The event by which a number comes to act as this, unless it does already.
+    pub fn change(&self, process: u8, role: Role) -> Option<Event<'static>> {
+        let Role { user, group } = role;
+        (self.role(process) != role).then(|| Event::ActAs { process, user, group })
+    }
+
     /// Takes in an event that told this.
     pub fn note(&mut self, event: &Event, told: &Told) {
         match (event, told) {
@@ -43,7 +67,10 @@ impl Known {
                 let (operations, start) = (operations.to_vec(), self.time);
                 self.asleep.push(Asleep { process, identifier, wait, operations, start });
             }
-            (_, Told::Made(identifier)) => self.live[slot(*identifier)] = Some(*identifier),
+            (&Event::Create { process, mode, .. }, &Told::Made(identifier)) => {
+                let owner = self.role(process);
+                self.live[slot(identifier)] = Some(Live { identifier, owner, mode });
+            }
             (event, Told::Done(wakings)) => self.done(event, wakings),
             _ => {}
         }
@@ -56,7 +83,10 @@ impl Known {
         match *event {
             Event::Exit { process } => self.asleep.retain(|asleep| asleep.process != process),
             Event::Clock { time } => self.time = time,
-            Event::Remove { identifier } => {
+            Event::ActAs { process, user, group } => {
+                self.roles[usize::from(process) - 1] = Role { user, group };
+            }
+            Event::Remove { identifier, .. } => {
                 self.live[slot(identifier)] = None;
                 self.freed[slot(identifier)] += 1;
             }

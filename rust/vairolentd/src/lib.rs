@@ -3,10 +3,10 @@
 //! Programs that run with the preload library send each call as a packet over a Unix socket. The
 //! daemon hands it to the one host that it holds, as one of the service's events, and answers; a call
 //! that sleeps is answered when an event ends it. What the rules say is the service's, libvairolent's.
-//! What Linux has beside them is the daemon's: keys (`get`), owners, modes and times (`sets`), real
-//! pids and which of the service's eight numbers stands for which process (`leases`, `accounts`), the
-//! end of a process (`exits`), time (`clock`). Every event is recorded (`record`), so that the proved program
-//! replay gives its answers once more.
+//! What Linux has beside them is the daemon's: keys (`get`), times and last pids (`sets`), real pids,
+//! which of the service's eight numbers stands for which process (`leases`, `accounts`) and acts as
+//! whom (`call`), the end of a process (`exits`), time (`clock`). Every event is recorded (`record`), so
+//! that the proved program replay gives its answers once more.
 //!
 //! Data goes one way: packet, request (`message`), event (`get`, `operate`, `control`, `exits`), host
 //! and recording (`engine`), answer. One thread does it all (`server`).
@@ -14,6 +14,7 @@
 mod accounts;
 pub mod arguments;
 mod beginning;
+mod call;
 mod caller;
 mod clock;
 mod control;
@@ -29,10 +30,13 @@ mod operate;
 mod piece;
 mod record;
 mod say;
+mod seen;
 mod server;
 mod sets;
 mod status;
 pub mod system;
+#[cfg(test)]
+mod trial;
 
 use std::fs::{self, Permissions};
 use std::io::{self, Write};

@@ -5,10 +5,9 @@ use vairolent::{Event, Host, Operation, Told, SEMAPHORES, SETS, VALUE_MAX};
 use crate::caller::Caller;
 use crate::clock;
 use crate::daemon::{ConnectionId, Daemon, Sleeper};
-use crate::errno::{Errno, EACCES, ENOSPC, ERANGE};
+use crate::errno::{Errno, ENOSPC, ERANGE};
 use crate::leases::SPARE;
 use crate::message::Reply;
-use crate::sets::{ALTER, READ};
 
 /// A call as it came.
 pub struct Call {
@@ -23,16 +22,15 @@ pub struct Call {
 impl Daemon {
     /// The answer, or nothing while the call sleeps.
     pub fn operate(&mut self, call: Call) -> Option<Reply> {
-        let sleepers = &self.sleepers;
-        let asleep = |number| sleepers.iter().any(|sleeper| sleeper.number == number);
-        let process = self.leases.choose(call.caller.process, asleep);
+        // The time comes first: it may wake the caller's own threads, and free their numbers.
         let wait = call.wait.and_then(|wait| clock::wait(wait, self.begin_wait(wait)));
         let (identifier, operations) = (call.identifier, &call.operations[..]);
+        let process = self.number_at(identifier, &call.caller);
         let event = Event::Operate { process, identifier, wait, operations };
         if let Err(errno) = self.admit(&call, process, &event) {
             return Some(errno.into());
         }
-        match self.engine.run_by(process, call.caller.pid, &event) {
+        match self.engine.run(&event) {
             Told::Refused(error) => Some(Reply::ended(error.code())),
             Told::Asleep { .. } => {
                 self.put_to_sleep(process, call);
@@ -65,15 +63,12 @@ impl Daemon {
         self.sleepers.push(Sleeper { number, caller, connection, identifier, operations });
     }
 
-    /// May the call be handed in? What the service refuses before it judges comes first.
+    /// May the call be handed in? Whatever the service itself refuses may.
     fn admit(&self, call: &Call, process: u8, event: &Event) -> Result<(), Errno> {
-        let denied = self.denied(call);
-        if !denied && process != SPARE && self.other_parts(call, process).next().is_none() {
+        if process != SPARE && self.other_parts(call, process).next().is_none() {
             return Ok(());
         }
         match self.engine.would(event) {
-            (Told::Refused(error), _) if error.position().is_none() => Ok(()),
-            _ if denied => Err(EACCES),
             (Told::Asleep { .. }, _) if process == SPARE => Err(ENOSPC),
             (Told::Done(_), after) if process == SPARE && holds(&after) => Err(ENOSPC),
             (Told::Done(_), after) if self.leaves_range(call, process, &after) => Err(ERANGE),
@@ -96,15 +91,6 @@ impl Daemon {
                 .for_each(|(sum, each)| *sum += i32::from(*each));
         }
         sums.iter().any(|sum| sum.abs() > i32::from(VALUE_MAX))
-    }
-
-    /// An amount other than 0 asks to alter, one of 0 to read.
-    fn denied(&self, call: &Call) -> bool {
-        let alters = |operation: &Operation| operation.amount != 0;
-        let asked = call.operations.iter().map(|each| if alters(each) { ALTER } else { READ });
-        let asked = asked.fold(0, |all, each| all | each);
-        let set = self.sets.find(call.identifier);
-        set.map_or(false, |set| set.permits(&call.caller, asked).is_err())
     }
 }
 

@@ -28,6 +28,8 @@ pub struct Record {
     piece: Piece,
     /// Who the processes are, by their numbers from 1 on: pid and name.
     who: [Option<(i32, String)>; PROCESSES],
+    /// The number and the pid that the next event names.
+    named: Option<(u8, i32)>,
     /// Full pieces that could not be made whole yet.
     waiting: Vec<Piece>,
     /// Did the disk fail the last time?
@@ -43,8 +45,8 @@ impl Record {
         let (folder, number) = (folder.to_path_buf(), last + 1);
         let mut piece = Piece::new(file(&folder, number, "run"), with_lines);
         piece.save()?;
-        let (who, waiting, failing) = (Default::default(), Vec::new(), false);
-        Ok(Record { folder, _lock: lock, with_lines, number, piece, who, waiting, failing })
+        let (who, named, waiting, failing) = (Default::default(), None, Vec::new(), false);
+        Ok(Record { folder, _lock: lock, with_lines, number, piece, who, named, waiting, failing })
     }
 
     /// Is there room in the present file for an event with this body?
@@ -60,8 +62,12 @@ impl Record {
         self.waiting.len() >= WAITING_MAX
     }
 
-    /// The process of the next event is this one.
+    /// From the next event on a number stands for this process.
     pub fn name(&mut self, process: u8, pid: i32) {
+        self.named = Some((process, pid));
+    }
+
+    fn say_who(&mut self, process: u8, pid: i32) {
         let before = &mut self.who[usize::from(process) - 1];
         if before.as_ref().map_or(true, |who| who.0 != pid) {
             let comm = fs::read_to_string(format!("/proc/{pid}/comm")).unwrap_or_default();
@@ -72,6 +78,9 @@ impl Record {
     }
 
     pub fn add(&mut self, body: &[u8], line: impl FnOnce() -> String) {
+        if let Some((process, pid)) = self.named.take() {
+            self.say_who(process, pid);
+        }
         self.piece.add(body, line);
         self.save();
     }

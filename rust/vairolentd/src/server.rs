@@ -5,7 +5,7 @@ use std::fs::File;
 use std::io;
 use std::path::Path;
 
-use crate::caller::{Caller, ProcessId};
+use crate::caller::{Caller, ProcessId, Role};
 use crate::control::Control;
 use crate::daemon::{ConnectionId, Daemon};
 use crate::errno::{Errno, ENOSPC};
@@ -111,8 +111,8 @@ impl Server {
             return Err(refused("its process is of another pid namespace".to_string()));
         }
         let process = self.process(&socket, pid)?;
-        let (user, group, groups) = (user as u32, group as u32, socket.peer_groups()?.into());
-        let caller = Caller { process, pid, user, group, groups };
+        let role = Role { user: user as u32, group: group as u32 };
+        let caller = Caller { process, pid, role, groups: socket.peer_groups()?.into() };
         let its = self.connections.values().filter(|each| each.caller.process == process);
         if its.count() >= CONNECTIONS_MAX {
             return Err(refused(format!(
@@ -283,6 +283,7 @@ impl Server {
         let holds = self.daemon.leases.of(process).next().is_some();
         if !holds && !self.connections.values().any(its) {
             self.processes.remove(&process);
+            self.daemon.leases.forget(process);
         }
     }
 }

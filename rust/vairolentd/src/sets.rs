@@ -2,25 +2,24 @@
 
 use vairolent::{Operation, SEMAPHORES, SETS};
 
-use crate::caller::Caller;
-use crate::errno::{Errno, EACCES, EINVAL, EPERM};
+use crate::caller::{Caller, Role};
+use crate::errno::{Errno, EACCES, EINVAL};
 
 /// The key of a set that has none, IPC_PRIVATE.
 pub const PRIVATE: i32 = 0;
 
 /// What a caller asks of a set: bits as in one class of a mode.
-pub const READ: u32 = 4;
-pub const ALTER: u32 = 2;
+pub const READ: u16 = 4;
+pub const ALTER: u16 = 2;
 
 #[derive(Clone, Debug)]
 pub struct Set {
     pub identifier: i32,
     pub key: i32,
-    /// Owner and owning group; the creator's too, since nobody can change them.
-    pub user: u32,
-    pub group: u32,
+    /// Owner and owning group: the creator's, since nobody can change them.
+    pub owner: Role,
     /// Nine bits.
-    pub mode: u32,
+    pub mode: u16,
     pub count: usize,
     /// The last semop that was done and the last change, in seconds of the clock on the wall.
     pub operated: u64,
@@ -30,32 +29,18 @@ pub struct Set {
 }
 
 impl Set {
-    /// The bits of the caller's class: owner, else owning group, else other.
-    fn class(&self, caller: &Caller) -> u32 {
-        let shift = match caller {
-            _ if caller.user == self.user => 6,
-            _ if caller.is_in(self.group) => 3,
+    /// May the caller have all of this, by the bits of its class: owner, else owning group, else other?
+    /// It is asked for what is no event: of those the service asks it, by the same rule.
+    pub fn permits(&self, caller: &Caller, asked: u16) -> Result<(), Errno> {
+        let shift = match caller.role.user {
+            user if user == self.owner.user => 6,
+            _ if caller.is_in(self.owner.group) => 3,
             _ => 0,
         };
-        self.mode >> shift & 7
-    }
-
-    /// May the caller do all of this?
-    pub fn permits(&self, caller: &Caller, asked: u32) -> Result<(), Errno> {
-        let denied = caller.user != 0 && asked & 7 & !self.class(caller) != 0;
-        if denied {
+        if caller.role.user != 0 && asked & 7 & !(self.mode >> shift) != 0 {
             Err(EACCES)
         } else {
             Ok(())
-        }
-    }
-
-    /// May the caller remove it?
-    pub fn owned_by(&self, caller: &Caller) -> Result<(), Errno> {
-        if caller.user == 0 || caller.user == self.user {
-            Ok(())
-        } else {
-            Err(EPERM)
         }
     }
 
@@ -115,13 +100,15 @@ mod tests {
     use super::*;
     use crate::caller::ProcessId;
 
-    fn set(identifier: i32, key: i32, mode: u32) -> Set {
-        let (user, group, count, operated, changed) = (7, 9, 2, 0, 0);
-        Set { identifier, key, user, group, mode, count, operated, changed, lasts: [0; 8] }
+    fn set(identifier: i32, key: i32, mode: u16) -> Set {
+        let owner = Role { user: 7, group: 9 };
+        let (count, operated, changed) = (2, 0, 0);
+        Set { identifier, key, owner, mode, count, operated, changed, lasts: [0; 8] }
     }
 
     fn caller(user: u32, group: u32) -> Caller {
-        Caller { process: ProcessId(1), pid: 1, user, group, groups: vec![5].into() }
+        let (process, role) = (ProcessId(1), Role { user, group });
+        Caller { process, pid: 1, role, groups: vec![5].into() }
     }
 
     /// One class alone counts, the first that fits; user 0 passes.
@@ -129,7 +116,7 @@ mod tests {
     fn a_mode_is_asked_by_class() {
         let (owner, group, other) = (caller(7, 9), caller(8, 9), caller(8, 8));
         for bits in 0..8 {
-            for asked in [READ, ALTER, READ | ALTER] {
+            for asked in [1, READ, ALTER, READ | ALTER, 7] {
                 let granted = asked & !bits == 0;
                 assert_eq!(set(0, 0, bits << 6).permits(&owner, asked).is_ok(), granted);
                 assert_eq!(set(0, 0, bits << 3).permits(&group, asked).is_ok(), granted);
@@ -137,17 +124,10 @@ mod tests {
                 assert!(set(0, 0, 0o777 & !(7 << 6)).permits(&owner, asked).is_err());
                 assert!(set(0, 0, 0o777 & !(7 << 3)).permits(&group, asked).is_err());
                 assert!(set(0, 0, 0).permits(&caller(0, 1), asked).is_ok());
-                let also = Set { group: 5, ..set(0, 0, bits << 3) };
+                let also = Set { owner: Role { user: 7, group: 5 }, ..set(0, 0, bits << 3) };
                 assert_eq!(also.permits(&other, asked).is_ok(), granted);
             }
         }
-    }
-
-    #[test]
-    fn the_owner_and_user_0_may_remove() {
-        assert_eq!(set(0, 0, 0).owned_by(&caller(7, 1)), Ok(()));
-        assert_eq!(set(0, 0, 0).owned_by(&caller(0, 1)), Ok(()));
-        assert_eq!(set(0, 0, 0o777).owned_by(&caller(8, 9)), Err(EPERM));
     }
 
     #[test]

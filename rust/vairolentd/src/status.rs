@@ -5,6 +5,7 @@ use std::fs;
 
 use crate::caller::Caller;
 use crate::daemon::{Daemon, Sleeper};
+use crate::seen;
 use crate::sets::READ;
 
 impl Daemon {
@@ -23,7 +24,7 @@ impl Daemon {
         for set in self.sets.iter() {
             let key = format!("0x{:08x}", set.key);
             let perms = format!("{:o}", set.mode);
-            let owner = name(&users, set.user);
+            let owner = name(&users, set.owner.user);
             row(text, &[key, set.identifier.to_string(), owner, perms, set.count.to_string()]);
         }
     }
@@ -32,7 +33,7 @@ impl Daemon {
         let columns = ["semid", "semnum", "value", "ncount", "zcount", "pid"];
         title(text, "Semaphores", &columns);
         for set in self.sets.iter().filter(|set| set.permits(caller, READ).is_ok()) {
-            let shown = self.engine.host().query_set(set.identifier).expect("a live set");
+            let shown = seen::set(self.engine.host(), set.identifier);
             for (number, semaphore) in shown.semaphores().iter().enumerate() {
                 let (value, last) = (i64::from(semaphore.value), i64::from(set.lasts[number]));
                 let waits = [semaphore.increase.into(), semaphore.zero.into()];
@@ -62,7 +63,7 @@ impl Daemon {
 
     /// The semaphore at which a sleeper stops, and what it waits for there.
     fn waits_for(&self, sleeper: &Sleeper) -> (String, &'static str) {
-        let shown = self.engine.host().query_set(sleeper.identifier).expect("a live set");
+        let shown = seen::set(self.engine.host(), sleeper.identifier);
         let bit = 1 << (sleeper.number - 1);
         for (number, semaphore) in shown.semaphores().iter().enumerate() {
             if semaphore.increase_mask & bit != 0 {
@@ -90,4 +91,26 @@ fn name(users: &str, user: u32) -> String {
     let of_user = |line: &&str| line.split(':').nth(2) == Some(&user.to_string());
     let name = users.lines().find(of_user).and_then(|line| line.split(':').next());
     name.map_or_else(|| user.to_string(), str::to_string)
+}
+
+#[cfg(test)]
+mod tests {
+    use crate::trial::*;
+    use vairolent::Operation;
+
+    /// Rows of sets, semaphores and sleepers.
+    fn rows(text: &str) -> Vec<usize> {
+        let lists = text.split("------ ").filter(|list| list.contains("semid"));
+        lists.map(|list| list.lines().skip(2).take_while(|line| !line.is_empty()).count()).collect()
+    }
+
+    #[test]
+    fn a_hidden_set_is_in_the_list_alone() {
+        let mut trial = Trial::new();
+        let [owner, other] = [caller(1, 7, &[9]), caller(2, 8, &[8])];
+        let [hidden, _] = [0o600, 0o604].map(|mode| trial.make(&owner, mode));
+        assert_eq!(trial.operate(&owner, hidden, &[Operation::new(1, -1)]), None);
+        assert_eq!(rows(&trial.daemon.status(&owner)), [2, 4, 1]);
+        assert_eq!(rows(&trial.daemon.status(&other)), [2, 2, 0]);
+    }
 }

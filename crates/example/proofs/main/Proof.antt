@@ -73,12 +73,12 @@ behind-operate2 c = is-given (host-of (behind-operate (c .before .before .before
 called : (c : tie.After-operate2) → let a = c .operate2 in
     let b = c .before .before .before .before .before .before .before .operate in
     let d = c .before .before .before .before .before .before .before .before .before .before .before .before .create in
-    Called Quick (hostOf freshState) (create 1 255 255 ∷ operate 1 (pos 0) Endless take ∷ operate 2 (pos 0) Endless give ∷ [])
+    Called Quick (hostOf freshState) (create 1 1 511 ∷ operate 1 (pos 0) Endless take ∷ operate 2 (pos 0) Endless give ∷ [])
     (tells (afterIn (d .last .0) (d .last .1 .0) (d .last .1 .1 .0) (d .result)) ∷ tells (afterIn (b .last .0) (b .last .1 .0) (b .last .1 .1 .0) (b .result)) ∷ tells (afterIn (a .last .0) (a .last .1 .0) (a .last .1 .1 .0) (a .result)) ∷ [])
 called c =
     let b = c .before .before .before .before .before .before .before in
     let d = b .before .before .before .before .before in
-    andCall (creates 1 255 255 _ (d .create .ensures ∙ ap (λ (x : Host). afterOf (doCreate (stateIn x) 1 255 255)) (is-fresh (d .before .before .before .before))))
+    andCall (creates 1 1 511 _ (d .create .ensures ∙ ap (λ (x : Host). afterOf (doCreate (stateIn x) 1 1 511)) (is-fresh (d .before .before .before .before))))
     (andCall (operates 1 (pos 0) Endless take _ (b .operate .ensures))
     (andCall (operates 2 (pos 0) Endless give _ (c .operate2 .ensures))
     noCall))

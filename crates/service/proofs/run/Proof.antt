@@ -79,6 +79,12 @@ enum-known-event-10 c = search needs
 clock-requires : tie.Need-clock-requires
 clock-requires c κs = search needs
 
+enum-known-event-11 : tie.Need-enum-known-event-11
+enum-known-event-11 c = search needs
+
+act-as-requires : tie.Need-act-as-requires
+act-as-requires c κs = search needs
+
 returns : tie.Need-returns
 unfolding event
 returns c = let g = c .before .before .before .before .before .event .given .1 in (rw g (ap tells (c .create .ensures)), rw g)
@@ -89,11 +95,11 @@ returns-2 c = let e0 = toZ-ofZ {w = w32} {z = c .before .before .before .before 
 
 returns-3 : tie.Need-returns-3
 unfolding event
-returns-3 c = let e0 = toZ-ofZ {w = w32} {z = c .before .before .before .before .before .event3 .given .0 .0} (record { sfits = c .before .before .before .before .known-told3 .given .0 .1 }) in let e1 = toZ-ofZ {w = w32} {z = c .before .before .before .before .before .event3 .given .0 .1 .1 .0} (record { sfits = c .before .before .before .before .known-told3 .given .1 .1 .0 .1 }) in let g = c .before .before .before .before .before .event3 .given .1 in (rw g (ap tells (rw (e0, e1) at (c .set-value .ensures))), rw g)
+returns-3 c = let e0 = toZ-ofZ {w = w32} {z = c .before .before .before .before .before .event3 .given .0 .1 .0} (record { sfits = c .before .before .before .before .known-told3 .given .1 .0 .1 }) in let e1 = toZ-ofZ {w = w32} {z = c .before .before .before .before .before .event3 .given .0 .1 .1 .1 .0} (record { sfits = c .before .before .before .before .known-told3 .given .1 .1 .1 .0 .1 }) in let g = c .before .before .before .before .before .event3 .given .1 in (rw g (ap tells (rw (e0, e1) at (c .set-value .ensures))), rw g)
 
 returns-4 : tie.Need-returns-4
 unfolding event
-returns-4 c = let e0 = toZ-ofZ {w = w32} {z = c .before .before .before .before .before .event4 .given .0 .0} (record { sfits = c .before .before .before .before .known-told4 .given .0 .1 }) in let g = c .before .before .before .before .before .event4 .given .1 in (rw g (ap tells (rw (e0) at (c .remove .ensures))), rw g)
+returns-4 c = let e0 = toZ-ofZ {w = w32} {z = c .before .before .before .before .before .event4 .given .0 .1 .0} (record { sfits = c .before .before .before .before .known-told4 .given .1 .0 .1 }) in let g = c .before .before .before .before .before .event4 .given .1 in (rw g (ap tells (rw (e0) at (c .remove .ensures))), rw g)
 
 returns-5 : tie.Need-returns-5
 unfolding event
@@ -105,27 +111,31 @@ returns-6 c = let g = c .before .before .before .before .before .event6 .given .
 
 returns-7 : tie.Need-returns-7
 unfolding event
-returns-7 c = let s = c .before .before .before .before .before .before .before .before .before in let e = toZ-ofZ {w = w32} {z = c .before .before .before .before .before .before .event7 .given .0 .0} (record { sfits = c .before .before .before .before .before .known-told7 .given .0 .1 }) in let g = c .before .before .before .before .before .before .event7 .given .1 in (rw g (seen (hostIn (s .args .host .now) (s .args .adjustments .now)) (s .pre) _ _ (c .before .before .before .clear .ensures) (rw e at (c .query .ensures))), rw g)
+returns-7 c = let s = c .before .before .before .before .before .before .before .before .before in let e = toZ-ofZ {w = w32} {z = c .before .before .before .before .before .before .event7 .given .0 .1 .0} (record { sfits = c .before .before .before .before .before .known-told7 .given .1 .0 .1 }) in let g = c .before .before .before .before .before .before .event7 .given .1 in (rw g (seen (hostIn (s .args .host .now) (s .args .adjustments .now)) (s .pre) _ _ _ (c .before .before .before .clear .ensures) (rw e at (c .query .ensures))), rw g)
 
 returns-8 : tie.Need-returns-8
 unfolding event
-returns-8 c = let e0 = toZ-ofZ {w = w32} {z = c .before .before .before .before .before .event8 .given .0 .0} (record { sfits = c .before .before .before .before .known-told8 .given .0 .1 }) in let g = c .before .before .before .before .before .event8 .given .1 in (rw g (ap tells (rw (e0) at (c .set-all .ensures))), rw g)
+returns-8 c = let e0 = toZ-ofZ {w = w32} {z = c .before .before .before .before .before .event8 .given .0 .1 .0} (record { sfits = c .before .before .before .before .known-told8 .given .1 .0 .1 }) in let g = c .before .before .before .before .before .event8 .given .1 in (rw g (ap tells (rw (e0) at (c .set-all .ensures))), rw g)
 
 returns-9 : tie.Need-returns-9
 unfolding event
 returns-9 c =
     let k = c .before .before .before .before .before .before .before .before in
     let s = k .before .before .before .before in
-    let e = toZ-ofZ {w = w32} {z = k .before .event9 .given .0 .0} (record { sfits = k .known-told9 .given .0 .1 }) in
+    let e = toZ-ofZ {w = w32} {z = k .before .event9 .given .0 .1 .0} (record { sfits = k .known-told9 .given .1 .0 .1 }) in
     let g = k .before .event9 .given .1 in
     let x = hostIn (s .args .host .now) (s .args .adjustments .now) in
     let long : length (s .args .numbers .now) ≡ 3 * semaphores = search needs in
     let r = rw e at (c .read-all .ensures) in
-    (rw g (read x (s .pre) _ _ long r (c .before .before .before .before .clear2 .ensures)), rw g (left-is x (s .pre) _ _ long r))
+    (rw g (read x (s .pre) _ _ _ long r (c .before .before .before .before .clear2 .ensures)), rw g (left-is x (s .pre) _ _ _ long r))
 
 returns-10 : tie.Need-returns-10
 unfolding event
 returns-10 c = let g = c .before .before .before .before .before .event10 .given .1 in (rw g (ap tells (c .clock .ensures)), rw g)
+
+returns-11 : tie.Need-returns-11
+unfolding event
+returns-11 c = let g = c .before .before .before .before .before .event11 .given .1 in (rw g (ap tells (c .act-as .ensures)), rw g)
 
 pub run-spec : {M : Type 1} → statement M
 run-spec =
@@ -153,6 +163,8 @@ run-spec =
     read-all-requires
     enum-known-event-10
     clock-requires
+    enum-known-event-11
+    act-as-requires
     returns
     returns-2
     returns-3
@@ -162,4 +174,5 @@ run-spec =
     returns-7
     returns-8
     returns-9
-    returns-10)
+    returns-10
+    returns-11)

@@ -13,7 +13,7 @@ use judging::slot_of;
 use model::ALL_ADJUSTMENTS;
 use model::Queried;
 use model::SEMAPHORES;
-use service_checks::check_number;
+use service_checks::check_query;
 
 // A refused query: zeros after the code.
 fn refused(code: u8) -> Queried
@@ -35,13 +35,14 @@ fn refused(code: u8) -> Queried
 pub fn query(
     host: &[u8; HOST_BYTES],
     adjustments: &[i16; ALL_ADJUSTMENTS],
+    process: u8,
     identifier: i32,
     number: u16,
 ) -> Queried
     requires { ⌜ Held (hostIn (now host) (now adjustments)) ⌝ }
-    ensures { λ r. ⌜ r ≡ queriedOf (doQuery (stateIn (hostIn (now (host .entry)) (now (adjustments .entry)))) identifier number) ⌝ }
+    ensures { λ r. ⌜ r ≡ queriedOf (doQuery (stateIn (hostIn (now (host .entry)) (now (adjustments .entry)))) process identifier number) ⌝ }
 {
-    let code = check_number(host, identifier, number);
+    let code = check_query(host, process, identifier, number);
     if code != 0 {
         return refused(code);
     }

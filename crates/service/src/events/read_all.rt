@@ -43,12 +43,13 @@ pub fn read_all(
     host: &[u8; HOST_BYTES],
     adjustments: &[i16; ALL_ADJUSTMENTS],
     numbers: &mut [u32; ALL_READ],
+    process: u8,
     identifier: i32,
 ) -> Reading
     requires { ⌜ Held (hostIn (now host) (now adjustments)) ⌝ }
-    ensures { λ r. ⌜ (r, now (numbers .exit)) ≡ readOut (now (numbers .entry)) (doReadAll (stateIn (hostIn (now (host .entry)) (now (adjustments .entry)))) identifier) ⌝ }
+    ensures { λ r. ⌜ (r, now (numbers .exit)) ≡ readOut (now (numbers .entry)) (doReadAll (stateIn (hostIn (now (host .entry)) (now (adjustments .entry)))) process identifier) ⌝ }
 {
-    let set = query_set(host, adjustments, identifier);
+    let set = query_set(host, adjustments, process, identifier);
     let values = set.values;
     let increase = set.increase;
     let zero = set.zero;

@@ -13,7 +13,7 @@ use model::ALL_ADJUSTMENTS;
 use model::Set;
 use model::Told;
 use model::WAKING_BYTES;
-use service_checks::check_set;
+use service_checks::check_remove;
 use service_queue::Ending;
 use service_queue::end_all;
 use service_table::clear_slot;
@@ -25,13 +25,14 @@ pub fn remove(
     host: &mut [u8; HOST_BYTES],
     adjustments: &mut [i16; ALL_ADJUSTMENTS],
     wakings: &mut [u8; WAKING_BYTES],
+    process: u8,
     identifier: i32,
 ) -> Told
     requires { ⌜ Held (hostIn (now host) (now adjustments)) ⌝ }
-    ensures { λ r. ⌜ afterIn (now (host .exit)) (now (adjustments .exit)) (now (wakings .exit)) r ≡ afterOf (doRemove (stateIn (hostIn (now (host .entry)) (now (adjustments .entry)))) identifier) ⌝ }
+    ensures { λ r. ⌜ afterIn (now (host .exit)) (now (adjustments .exit)) (now (wakings .exit)) r ≡ afterOf (doRemove (stateIn (hostIn (now (host .entry)) (now (adjustments .entry)))) process identifier) ⌝ }
 {
     clear(&mut *wakings);
-    let code = check_set(&*host, identifier);
+    let code = check_remove(&*host, process, identifier);
     if code != 0 {
         return quiet(code, 0);
     }
@@ -40,8 +41,9 @@ pub fn remove(
     let set = Set {
         generation: wrapping_add_u16(old.generation, 1),
         count: 0,
-        read: 0,
-        alter: 0,
+        owner: 0,
+        group: 0,
+        mode: 0,
     };
     put_set(&mut *host, slot, set);
     clear_slot(&mut *host, adjustments, slot);

@@ -37,14 +37,15 @@ pub fn set_all(
     adjustments: &mut [i16; ALL_ADJUSTMENTS],
     wakings: &mut [u8; WAKING_BYTES],
     engine: Engine,
+    process: u8,
     identifier: i32,
     values: &[u8],
 ) -> Told
     requires { ⌜ Held (hostIn (now host) (now adjustments)) ⌝ }
-    ensures { λ r. ⌜ afterIn (now (host .exit)) (now (adjustments .exit)) (now (wakings .exit)) r ≡ afterOf (doSetAll (waker engine) (stateIn (hostIn (now (host .entry)) (now (adjustments .entry)))) identifier (now (values .entry))) ⌝ }
+    ensures { λ r. ⌜ afterIn (now (host .exit)) (now (adjustments .exit)) (now (wakings .exit)) r ≡ afterOf (doSetAll (waker engine) (stateIn (hostIn (now (host .entry)) (now (adjustments .entry)))) process identifier (now (values .entry))) ⌝ }
 {
     clear(&mut *wakings);
-    let code = check_set_all(&*host, identifier, values);
+    let code = check_set_all(&*host, process, identifier, values);
     if code != 0 {
         return quiet(code, 0);
     }

@@ -25,15 +25,16 @@ pub fn set_value(
     adjustments: &mut [i16; ALL_ADJUSTMENTS],
     wakings: &mut [u8; WAKING_BYTES],
     engine: Engine,
+    process: u8,
     identifier: i32,
     number: u16,
     value: i32,
 ) -> Told
     requires { ⌜ Held (hostIn (now host) (now adjustments)) ⌝ }
-    ensures { λ r. ⌜ afterIn (now (host .exit)) (now (adjustments .exit)) (now (wakings .exit)) r ≡ afterOf (doSetValue (waker engine) (stateIn (hostIn (now (host .entry)) (now (adjustments .entry)))) identifier number value) ⌝ }
+    ensures { λ r. ⌜ afterIn (now (host .exit)) (now (adjustments .exit)) (now (wakings .exit)) r ≡ afterOf (doSetValue (waker engine) (stateIn (hostIn (now (host .entry)) (now (adjustments .entry)))) process identifier number value) ⌝ }
 {
     clear(&mut *wakings);
-    let code = check_set_value(&*host, identifier, number, value);
+    let code = check_set_value(&*host, process, identifier, number, value);
     if code != 0 {
         return quiet(code, 0);
     }

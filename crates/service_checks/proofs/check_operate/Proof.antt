@@ -2,84 +2,78 @@
 use Prim.Native.Nat.{_%_}
 use mathlib.Core.Path.{_≡_, refl, sym, _∙_}
 use mathlib.Core.Bool.{false, not, _||_}
+use mathlib.Core.List.{List, []}
 use lib.Dec.{eqb, ltb}
+use lib.IntN.{ℤ}
 use lib.ListN.{length, getD}
+use mir.Facts.{toZ-ofZ}
 use borrow.Author.Needs.{needs}
-use borrow.Author.Tests.{lt-ltb, le-ltb, not-true, not-false}
+use borrow.Author.Tests.{ne-eqb, lt-ltb, le-ltb, not-true, not-false}
 use Rattle.model.specs.Limits.{operationBytes, arrayBytes}
 use Rattle.model.specs.State.{noSet}
-use Rattle.model.specs.Checks.{noProcess, asleep, slotOf, namesSet, checkOperate}
+use Rattle.model.specs.Permission.{reading, altering}
+use Rattle.model.specs.Checks.{slotOf, namesSet, may, checkCaller, checkOperate}
+use Rattle.model.proofs.CheckLaws.{caller-passes}
 use Rattle.host.specs.Parts.{rowIn}
-use Rattle.host.specs.Holding.{setsIn, queueIn}
-use Rattle.service_checks.proofs.FoundSets.{names-found, set-found}
+use Rattle.host.specs.Holding.{setsIn, hostIn, stateIn}
+use Rattle.service_checks.proofs.FoundSets.{first-decides, names-found, set-found}
 use Rattle.service_checks.proofs.check_operate.Statement.{statement}
 use Rattle.service_checks.proofs.check_operate.Tie as tie
 
--- what each check found
+-- what the checks found
+abbrev of-call : tie.After-check-caller → tie.Start
+of-call c = c .before .before
 
-process-found : (c : tie.After-beyond) → noProcess (c .before .before .args .process) ≡ c .beyond .result
-unfolding noProcess
-process-found c = sym (c .beyond .ensures)
+called : (c : tie.After-check-caller) (a : List ℤ) → let s = of-call c in checkCaller (stateIn (hostIn (s .args .host .now) a)) (s .args .process) ≡ c .check-caller .result
+called c a = sym (c .check-caller .ensures a)
 
-asleep-found : (c : tie.After-is-asleep) → let b = c .before .before .before .before .args in asleep (b .process) (queueIn (rowIn (b .host .now))) ≡ c .is-asleep .result
-asleep-found c = sym (c .is-asleep .ensures)
-
-names : (c : tie.After-names-set)
-    → let b = c .before .before .before .before .before .before .before .before .before .args in namesSet (setsIn (rowIn (b .host .now))) (b .identifier) ≡ c .names-set .result
-names c = names-found (c .before .before .before .before .before .before .before .before .before .fits .identifier) _ (c .names-set .ensures)
-
-beyond-requires : tie.Need-beyond-requires
-beyond-requires c κs = search needs
+check-caller-requires : tie.Need-check-caller-requires
+check-caller-requires c κs = search needs
 
 returns : tie.Need-returns
 unfolding checkOperate
-returns c = (λ a. rw (process-found (c .before) ∙ c .if1 .taken), refl)
-
-is-asleep-requires : tie.Need-is-asleep-requires
-is-asleep-requires c κs = search needs
-
-returns-2 : tie.Need-returns-2
-unfolding checkOperate
-returns-2 c =
-    (λ a. rw (process-found (c .before .before .before) ∙ c .before .before .if1 .left, asleep-found (c .before) ∙ c .if2 .taken), refl)
+returns c = (λ a. rw (called (c .before) a) (sym (first-decides _ _ (c .if1 .taken))), rw (ne-eqb _ 0 (c .if1 .taken)))
 
 no-array-requires : tie.Need-no-array-requires
 no-array-requires c κs = search needs
 
--- the process is one, and awake
-called : (c : tie.Else2)
-    → let b = c .before .before .before .before .before .args in (noProcess (b .process) ≡ false) × (asleep (b .process) (queueIn (rowIn (b .host .now))) ≡ false)
-called c = (process-found (c .before .before .before) ∙ c .before .before .if1 .left, asleep-found (c .before) ∙ c .if2 .left)
+-- the caller is a process, and awake
+awake : (c : tie.Else1) (a : List ℤ) → let s = of-call (c .before) in checkCaller (stateIn (hostIn (s .args .host .now) a)) (s .args .process) ≡ 0
+awake c a = called (c .before) a ∙ c .if1 .left
+
+returns-2 : tie.Need-returns-2
+unfolding checkOperate
+returns-2 c = (λ a. rw (awake (c .before .before) a, sym (c .before .no-array .ensures) ∙ c .if2 .taken), refl)
 
 returns-3 : tie.Need-returns-3
 unfolding checkOperate
 returns-3 c =
-    let d = called (c .before .before) in
-    (λ a. rw (d .0, d .1, sym (c .before .no-array .ensures) ∙ c .if3 .taken), refl)
-
-returns-4 : tie.Need-returns-4
-unfolding checkOperate
-returns-4 c =
-    let d = called (c .before .before .before) in
-    (λ a. rw (d .0, d .1, sym (c .before .before .no-array .ensures) ∙ c .before .if3 .left, lt-ltb arrayBytes _ (c .if4 .taken)), refl)
+    let n = c .before .before in
+    (λ a. rw (awake (n .before) a, sym (n .no-array .ensures) ∙ c .before .if2 .left, lt-ltb arrayBytes _ (c .if3 .taken)), refl)
 
 -- .. with an array that is not too long
-arrayed : (c : tie.Else4)
-    → let b = c .before .before .before .before .before .before .before .before .args in
-    (noProcess (b .process) ≡ false) × (asleep (b .process) (queueIn (rowIn (b .host .now))) ≡ false) × (eqb (length (b .bytes .now)) 0 || not (eqb (length (b .bytes .now) % operationBytes) 0) ≡ false)
-    × (ltb arrayBytes (length (b .bytes .now)) ≡ false)
-arrayed c =
-    let d = called (c .before .before .before) in
-    (d .0, d .1, sym (c .before .before .no-array .ensures) ∙ c .before .if3 .left, le-ltb arrayBytes _ (c .if4 .left))
+abbrev of-array : tie.Else3 → tie.Else1
+of-array c = c .before .before .before
+
+arrayed : (c : tie.Else3) → let s = of-call (of-array c .before) in
+    (eqb (length (s .args .bytes .now)) 0 || not (eqb (length (s .args .bytes .now) % operationBytes) 0) ≡ false) × (ltb arrayBytes (length (s .args .bytes .now)) ≡ false)
+arrayed c = (sym (c .before .before .no-array .ensures) ∙ c .before .if2 .left, le-ltb arrayBytes _ (c .if3 .left))
 
 names-set-requires : tie.Need-names-set-requires
 names-set-requires c κs = search needs
 
-returns-5 : tie.Need-returns-5
+abbrev of-names : tie.After-names-set → tie.Else3
+of-names c = c .before
+
+names : (c : tie.After-names-set) → let s = of-call (of-array (of-names c) .before) in namesSet (setsIn (rowIn (s .args .host .now))) (s .args .identifier) ≡ c .names-set .result
+names c = names-found (of-call (of-array (of-names c) .before) .fits .identifier) _ (c .names-set .ensures)
+
+returns-4 : tie.Need-returns-4
 unfolding checkOperate
-returns-5 c =
-    let d = arrayed (c .before .before) in
-    (λ a. rw (d .0, d .1, d .2, d .3, names (c .before) ∙ not-true _ (c .if5 .taken)), refl)
+returns-4 c =
+    let n = c .before in
+    let d = arrayed (of-names n) in
+    (λ a. rw (awake (of-array (of-names n)) a, d .0, d .1, names n ∙ not-true _ (c .if4 .taken)), refl)
 
 slot-of-requires : tie.Need-slot-of-requires
 slot-of-requires c κs = search needs
@@ -87,23 +81,40 @@ slot-of-requires c κs = search needs
 set-at-requires : tie.Need-set-at-requires
 set-at-requires c κs = search needs
 
+-- the set that was read is the one that the identifier names
+abbrev of-set : tie.After-set-at → tie.After-names-set
+of-set c = c .before .before .before
+
+set-is : (c : tie.After-set-at) → let s = of-call (of-array (of-names (of-set c)) .before) in getD (setsIn (rowIn (s .args .host .now))) (slotOf (s .args .identifier)) noSet ≡ c .set-at .result
+set-is c = let s = of-call (of-array (of-names (of-set c)) .before) in set-found (s .fits .identifier) (rowIn (s .args .host .now)) (c .before .slot-of .ensures) (c .set-at .ensures)
+
+may-requires : tie.Need-may-requires
+may-requires c κs = let e = of-array (of-names (of-set c)) in caller-passes (stateIn (hostIn (of-call (e .before) .args .host .now) [])) _ (awake e []) .process
+
+may-requires-2 : tie.Need-may-requires-2
+may-requires-2 c κs = let e = of-array (of-names (of-set (c .before))) in caller-passes (stateIn (hostIn (of-call (e .before) .args .host .now) [])) _ (awake e []) .process
+
+-- what the caller may
+abbrev of-may : tie.After-may2 → tie.After-set-at
+of-may c = c .before .before
+
+reads : (c : tie.After-may2) (a : List ℤ) → let s = of-call (of-array (of-names (of-set (of-may c))) .before) in may (stateIn (hostIn (s .args .host .now) a)) (s .args .process) (s .args .identifier) reading ≡ c .before .may .result
+reads c a = let s = of-call (of-array (of-names (of-set (of-may c))) .before) in sym (rw (toZ-ofZ (s .fits .identifier)) at (c .before .may .ensures a))
+
+alters : (c : tie.After-may2) (a : List ℤ) → let s = of-call (of-array (of-names (of-set (of-may c))) .before) in may (stateIn (hostIn (s .args .host .now) a)) (s .args .process) (s .args .identifier) altering ≡ c .may2 .result
+alters c a = let s = of-call (of-array (of-names (of-set (of-may c))) .before) in sym (rw (toZ-ofZ (s .fits .identifier)) at (c .may2 .ensures a))
+
 check-array-requires : tie.Need-check-array-requires
 check-array-requires c κs = search needs
 
--- the set that was read is the one that the identifier names
-set-is : (c : tie.After-set-at)
-    → let b = c .before .before .before .before .before .before .before .before .before .before .before .before .args in
-    getD (setsIn (rowIn (b .host .now))) (slotOf (b .identifier)) noSet ≡ c .set-at .result
-set-is c =
-    let b = c .before .before .before .before .before .before .before .before .before .before .before .before in
-    set-found (b .fits .identifier) (rowIn (b .args .host .now)) (c .before .slot-of .ensures) (c .set-at .ensures)
-
-returns-6 : tie.Need-returns-6
+returns-5 : tie.Need-returns-5
 unfolding checkOperate
-returns-6 c =
-    let n = c .before .before .before in
-    let d = arrayed (n .before .before) in (
-      λ a. rw (d .0, d .1, d .2, d .3, names (n .before) ∙ not-false _ (n .if5 .left), set-is (c .before)) (c .check-array .ensures .0 (c .before .set-at .result .generation)),
+returns-5 c =
+    let m = c .before in
+    let t = of-may m in
+    let n = of-set t in
+    let d = arrayed (of-names n) in (
+      λ a. rw (awake (of-array (of-names n)) a, d .0, d .1, names n ∙ not-false _ (t .before .before .if4 .left), reads m a, alters m a, set-is t) (c .check-array .ensures .0),
       c .check-array .ensures .1,
     )
 
@@ -111,16 +122,16 @@ pub check-operate-spec : {M : Type 1} → statement M
 check-operate-spec =
     tie.close
     (tie.spec
-    beyond-requires
+    check-caller-requires
     returns
-    is-asleep-requires
-    returns-2
     no-array-requires
+    returns-2
     returns-3
-    returns-4
     names-set-requires
-    returns-5
+    returns-4
     slot-of-requires
     set-at-requires
+    may-requires
+    may-requires-2
     check-array-requires
-    returns-6)
+    returns-5)

@@ -5,8 +5,10 @@ use std::fs;
 use crate::{bad, built, good, repository, run, runtext};
 
 /// Kinds of good files, all of which `compare --help` lists.
-const KINDS: [&str; 9] =
-    ["medley", "mixed", "extremes", "refusals", "queries", "random", "long", "whole", "timed"];
+const KINDS: [&str; 10] = [
+    "medley", "mixed", "extremes", "refusals", "queries", "random", "long", "whole", "timed",
+    "modes",
+];
 /// Files of a seed, good and bad.
 const FILES: usize = 60;
 

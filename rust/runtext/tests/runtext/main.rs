@@ -10,7 +10,7 @@ use std::process::{Command, Output, Stdio};
 use std::thread;
 
 const EXAMPLE: &str = "\
-create 1 read=all alter=all
+create 1 by=1 mode=rw-rw-rw-
 operate 1 set=0 0:-1
 operate 2 set=0 0:+1
 ";

@@ -3,6 +3,8 @@
 use crate::files::generated;
 use crate::{bad, good, replay, run, EXAMPLE};
 
+const NO_ROOM: &str = "  values  not shown: the run file has no room for more readings";
+
 fn story(arguments: &[&str], input: &[u8]) -> String {
     let program = replay();
     let program = ["story", "--program", program.to_str().expect("a plain path")];
@@ -14,7 +16,7 @@ fn the_whole_example() {
     let wanted = "\
 3 events
 
-event 0: create a set of 1 semaphore, for all to read and alter
+event 0: process 1 creates a set of 1 semaphore, mode rw-rw-rw-
   line    0 0 0 0
   answer  done (0), the set's identifier is 0
   values  set 0: 0
@@ -39,12 +41,14 @@ event 2: process 2 on set 0: add 1 to semaphore 0
 /// Every kind of event and ending, in a few words each.
 #[test]
 fn every_event_in_words() {
-    let text = "create 2 read=1,2 alter=1\ncreate 9\noperate 1 set=0 0:+2/undo 1:0\n\
+    let text = "create 2 by=1 mode=640\ncreate 9 by=1\noperate 1 set=0 0:+2/undo 1:0\n\
         operate 2 set=0 0:0/nowait\noperate 2 set=0 0:0/0x1\nsignal 2\noperate 2 set=0 0:0\n\
-        query 0 number=0\nset 0 number=1 value=40000\nremove 0\nexit 1\nquery 0 number=0\n";
+        query 0 by=1 number=0\nset 0 by=1 number=1 value=40000\nas 1 user=7 group=9\n\
+        as 2 user=7 group=9\nas 1 user=0 group=9\nremove 0 by=1\nexit 1\n\
+        query 0 by=9 number=0\nread-all 0 by=1\ncreate 1 by=1 mode=1000\n";
     let story = story(&[], text.as_bytes());
     for wanted in [
-        "event 0: create a set of 2 semaphores, for 1,2 to read, for 1 to alter\n",
+        "event 0: process 1 creates a set of 2 semaphores, mode rw-r-----\n",
         "answer  refused: EINVAL (22), the count isn't 1 to 8\n",
         "process 1 on set 0: add 2 to semaphore 0 (undo); wait for zero at semaphore 1\n",
         "  values  set 0: 2 0\n",
@@ -52,15 +56,94 @@ fn every_event_in_words() {
         it\n          would have to sleep, but nowait is given\n",
         "wait for zero at semaphore 0 (0x0001)\n",
         "  waits   set 0, semaphore 0: 0 for increase, 1 for zero\n",
+        "event 5: signal process 2\n",
         "  wakes   process 2: EINTR (4), by the signal\n",
+        "event 7: process 1 queries semaphore 0 of set 0\n",
         "answer  done (0), value 2, last process 1, waiting 0 for increase, 1 for zero\n",
+        "event 8: process 1 sets semaphore 1 of set 0 to 40000\n",
         "answer  refused: ERANGE (34), the value isn't 0 to 32767\n",
+        "event 9: process 1 acts as user 7, group 9\n  line    9 0 0 0\n  answer  done (0)\n",
+        "event 10: process 2 acts as user 7, group 9\n  line    10 16 0 0\n  \
+        answer  refused: EBUSY (16), the process is asleep\n",
+        "event 12: process 1 (user 0, group 9) removes set 0\n",
         "  wakes   process 2: EIDRM (43), its set is removed\n",
+        "event 13: process 1 (user 0, group 9) exits\n",
         "answer  done (0), 0 looks\n  values  no live set\n",
-        "refused: EINVAL (22), no live set has this identifier, or it has no such semaphore\n",
+        "event 14: process 9 queries semaphore 0 of set 0\n",
+        "refused: ESRCH (3), no such process\n",
+        "event 15: process 1 (user 0, group 9) reads all of set 0\n",
+        "refused: EINVAL (22), no live set has this identifier\n",
+        "event 16: process 1 (user 0, group 9) creates a set of 1 semaphore, mode 1000\n",
+        "answer  refused: EINVAL (22), the mode is above 777\n",
     ] {
         assert!(story.contains(wanted), "{wanted} is not in\n{story}");
     }
+}
+
+/// Each class that denies, and a removal. Nobody is user 0: who reads the values for the story has
+/// its own numbers back, and is denied as before.
+#[test]
+fn who_asked_and_why_it_was_denied() {
+    let text = (3..=8).map(|process| format!("as {process} user=11 group=1\n")).collect::<String>()
+        + "as 1 user=7 group=9\nas 2 user=8 group=9\ncreate 1 by=1 mode=r-x-w----\n\
+        set 0 by=1 number=0 value=1\nread-all 0 by=2\noperate 3 set=0 0:0 0:+1\n\
+        remove 0 by=2\nset-all 0 by=2 values=5\nread-all 0 by=1\n";
+    let wanted = "
+event 9: process 1 (user 7, group 9) sets semaphore 0 of set 0 to 1
+  line    9 13 0 0
+  answer  refused: EACCES (13): the set is user 7's of group 9, and its owner may not alter (r-x)
+  values  set 0: 0
+
+event 10: process 2 (user 8, group 9) reads all of set 0
+  line    10 13
+  answer  refused: EACCES (13): the set is user 7's of group 9, and its group may not read (-w-)
+  values  set 0: 0
+
+event 11: process 3 (user 11, group 1) on set 0: wait for zero at semaphore 0; add 1 to semaphore 0
+  line    11 13 0 0
+  answer  refused: EACCES (13): the set is user 7's of group 9, and others may not read or alter
+          (---)
+  values  set 0: 0
+
+event 12: process 2 (user 8, group 9) removes set 0
+  line    12 1 0 0
+  answer  refused: EPERM (1): the set is user 7's, and only its owner and user 0 may remove it
+  values  set 0: 0
+";
+    let story = story(&[], text.as_bytes());
+    assert!(story.contains(wanted), "{story}");
+    let wanted = "  answer  done (0); semaphore 0: value 5\n  values  set 0: 5\n";
+    assert!(story.ends_with(wanted), "{story}");
+}
+
+/// Where all sleep nobody can read; why the last one sleeps is known from before.
+#[test]
+fn all_processes_asleep() {
+    let mut text = "create 1 by=1\n".to_string();
+    for process in 1..=8 {
+        text += &format!("operate {process} set=0 0:-1\n");
+    }
+    text += "read-all 0 by=8\nsignal 3\n";
+    let wanted = "
+event 8: process 8 on set 0: take 1 from semaphore 0
+  line    8 -1@0 0 0
+  answer  asleep (-1) at operation 0: semaphore 0 has value 0, the call wants 1
+  values  not shown: all processes are asleep, and none can read
+
+event 9: process 8 reads all of set 0
+  line    9 16
+  answer  refused: EBUSY (16), the process is asleep
+  values  not shown: all processes are asleep, and none can read
+
+event 10: signal process 3
+  line    10 0 0 0 3=4
+  answer  done (0)
+  wakes   process 3: EINTR (4), by the signal
+  values  set 0: 0
+  waits   set 0, semaphore 0: 7 for increase, 0 for zero
+";
+    let story = story(&[], text.as_bytes());
+    assert!(story.ends_with(wanted), "{story}");
 }
 
 #[test]
@@ -79,7 +162,7 @@ fn a_missing_program_says_what_builds_it() {
 /// Process 3 is looked at behind 2 and before 4, on other values than those that the event leaves.
 #[test]
 fn operations_that_decided() {
-    let text = "create 2\noperate 2 set=0 0:-1 1:+2\noperate 3 set=0 0:-1 1:+1 1:0/nowait\n\
+    let text = "create 2 by=1\noperate 2 set=0 0:-1 1:+2\noperate 3 set=0 0:-1 1:+1 1:0/nowait\n\
         operate 4 set=0 0:-2 1:-2\noperate 5 set=0 0:+3\noperate 5 set=0 0:+2 0:+32766\n\
         operate 5 set=0 1:+32767/undo\noperate 6 set=0 1:-2\noperate 5 set=0 1:+1/undo\n";
     let wanted = "
@@ -111,30 +194,31 @@ event 5: process 5 on set 0: add 2 to semaphore 0; add 32766 to semaphore 0
 /// A setting that wakes and one that is refused, and readings.
 #[test]
 fn all_values_at_once() {
-    let text = "create 2\noperate 1 set=0 0:-1 1:-1\noperate 2 set=0 1:0 0:-2\n\
-        set-all 0 values=1,2\nset-all 0 values=none\nread-all 0\nread-all 1\n";
+    let text = "create 2 by=1\noperate 1 set=0 0:-1 1:-1\noperate 2 set=0 1:0 0:-2\n\
+        set-all 0 by=3 values=1,2\nset-all 0 by=3 values=none\nread-all 0 by=1\n\
+        read-all 1 by=1\n";
     let wanted = "
-event 3: set all of set 0 to 1, 2
+event 3: process 3 sets all of set 0 to 1, 2
   line    3 0 0 2 1=0
   answer  done (0), 2 looks
   wakes   process 1: done (0)
   values  set 0: 0 1
   waits   set 0, semaphore 1: 0 for increase, 1 for zero
 
-event 4: set all of set 0 to no values
+event 4: process 3 sets all of set 0 to no values
   line    4 22 0 0
   answer  refused: EINVAL (22), no live set has this identifier, or it has another number of
           semaphores
   values  set 0: 0 1
   waits   set 0, semaphore 1: 0 for increase, 1 for zero
 
-event 5: read all of set 0
+event 5: process 1 reads all of set 0
   line    5 0 0 0 0 1 0 1
   answer  done (0); semaphore 0: value 0; semaphore 1: value 1, waiting 0 for increase, 1 for zero
   values  set 0: 0 1
   waits   set 0, semaphore 1: 0 for increase, 1 for zero
 
-event 6: read all of set 1
+event 6: process 1 reads all of set 1
   line    6 22
   answer  refused: EINVAL (22), no live set has this identifier
   values  set 0: 0 1
@@ -147,7 +231,7 @@ event 6: read all of set 1
 /// Sleepers that give up, a time that goes back, and a call that may not wait.
 #[test]
 fn waits_that_end_by_the_clock() {
-    let text = "create 1\noperate 1 set=0 wait=250 0:-1\noperate 2 set=0 wait=300 0:-1\n\
+    let text = "create 1 by=1\noperate 1 set=0 wait=250 0:-1\noperate 2 set=0 wait=300 0:-1\n\
         time 300\ntime 299\noperate 3 set=0 wait=0 0:-1\n";
     let wanted = "
 event 2: process 2 on set 0, waiting 300 ms at most: take 1 from semaphore 0
@@ -190,10 +274,22 @@ fn a_full_file() {
     assert_eq!(lines, replayed.lines().skip(1).collect::<Vec<_>>());
     let queries: Vec<bool> = story.split("\n\n").filter_map(query_agrees).collect();
     assert!(queries.len() > 200 && queries.iter().all(|&agrees| agrees));
-    let cut = story.matches("not all shown").count();
+    let cut = story.matches(NO_ROOM).count();
     assert!(cut <= 4, "{cut} events of a full file without all values");
     let decided = told_with_reasons(&story);
     assert!(decided > 200, "{decided} operations that decided");
+}
+
+/// Each caller that is denied is told why, and nobody's numbers are lost by the readings.
+#[test]
+fn a_full_file_of_modes() {
+    let story = story(&["--run"], &generated(&["--kind", "modes", "--seed", "3"]));
+    for (name, wanted) in [("EACCES (13)", 100), ("EPERM (1)", 5)] {
+        let denied = story.matches(name).count();
+        let told = story.matches(&format!("{name}: the set is user ")).count();
+        assert!(denied > wanted && told == denied, "{told} of {denied} with {name}");
+    }
+    told_with_reasons(&story);
 }
 
 #[test]
@@ -232,7 +328,7 @@ fn told_with_reasons(story: &str) -> usize {
         assert_eq!(named, told, "{scene}");
         told
     };
-    story.split("\n\n").filter(|scene| !scene.contains("not all shown")).map(reasons).sum()
+    story.split("\n\n").filter(|scene| !scene.contains(NO_ROOM)).map(reasons).sum()
 }
 
 /// How many operations the line of a scene names, and how many the story tells with a reason.
@@ -245,7 +341,7 @@ fn named_and_told(scene: &str) -> (usize, usize) {
 
 /// Of a query that is done: does the story show its value among those of its set?
 fn query_agrees(scene: &str) -> Option<bool> {
-    let rest = scene.split_once("query semaphore ")?.1;
+    let rest = scene.split_once(" queries semaphore ")?.1;
     let (number, rest) = rest.split_once(" of set ")?;
     let (identifier, rest) = rest.split_once('\n')?;
     let value = rest.split_once("done (0), value ")?.1.split(',').next()?;
@@ -254,7 +350,7 @@ fn query_agrees(scene: &str) -> Option<bool> {
 
 /// Of a reading that is done: does it tell the values that the story shows of its set?
 fn reading_agrees(scene: &str) -> Option<bool> {
-    let (identifier, rest) = scene.split_once(": read all of set ")?.1.split_once('\n')?;
+    let (identifier, rest) = scene.split_once(" reads all of set ")?.1.split_once('\n')?;
     let answer = rest.split_once("done (0); ")?.1.split("\n  values ").next()?;
     let words: Vec<&str> = answer.split_whitespace().collect();
     let values = words.windows(2).filter(|pair| pair[0] == "value");

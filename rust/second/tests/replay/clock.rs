@@ -1,8 +1,8 @@
 //! Waits that end by the clock.
 
 use second::event::{
-    clock, exit, operate, query, read_all, remove, set_all, set_value, signal, timed_operate,
-    Operation,
+    act_as, clock, exit, operate, query, read_all, remove, set_all, set_value, signal,
+    timed_operate, Operation,
 };
 use second::{Event, Host, Rule, NOWAIT, TIME_MAX, UNDO};
 
@@ -17,9 +17,9 @@ fn a_wait_ends_at_its_time_and_not_before() {
         (clock(100), "0 0 0"),
         (timed_operate(1, 0, 50, &TAKE), "-1@0 0 0"),
         (clock(149), "0 0 0"),
-        (query(0, 0), "0 0 0 1 0"),
+        (query(8, 0, 0), "0 0 0 1 0"),
         (clock(150), "0 0 0 1=11"),
-        (query(0, 0), "0 0 0 0 0"),
+        (query(8, 0, 0), "0 0 0 0 0"),
         (clock(150), "0 0 0"),
         (timed_operate(1, 0, 50, &TAKE), "-1@0 0 0"),
         (clock(1_000), "0 0 0 1=11"),
@@ -38,7 +38,7 @@ fn the_oldest_ends_first() {
         (timed_operate(3, 0, 31, &TAKE), "-1@0 0 0"),
         (clock(30), "0 0 0 4=11 7=11 2=11"),
         (clock(TIME_MAX), "0 0 0 3=11"),
-        (set_value(0, 0, 1), "0 0 1 5=0"),
+        (set_value(8, 0, 0, 1), "0 0 1 5=0"),
     ]);
 }
 
@@ -59,8 +59,8 @@ fn an_expiry_changes_no_value() {
         (timed_operate(1, 0, 5, &[(1, 1, 0), (0, -1, 0)]), "-1@1 0 0"),
         (operate(2, 0, &[(1, -1, 0)]), "-1@0 0 0"),
         (clock(5), "0 0 0 1=11"),
-        (read_all(0), "0 0 0 0 0 1 0 0 0 0 0 0 0 0 0 0 0 0 0 0 0 0 0 0 0"),
-        (query(0, 1), "0 0 0 1 0"),
+        (read_all(8, 0), "0 0 0 0 0 1 0 0 0 0 0 0 0 0 0 0 0 0 0 0 0 0 0 0 0"),
+        (query(8, 0, 1), "0 0 0 1 0"),
     ]);
 }
 
@@ -70,10 +70,10 @@ fn woken_before_its_time_is_told() {
     let stops = [(1, 0, NOWAIT), (2, 9, 0), (0, -1, 0)];
     check_on_a_set(&[
         (timed_operate(1, 0, 1, &TAKE), "-1@0 0 0"),
-        (set_value(0, 0, 1), "0 0 1 1=0"),
+        (set_value(8, 0, 0, 1), "0 0 1 1=0"),
         (timed_operate(2, 0, 1, &stops), "-1@2 0 0"),
-        (set_all(0, &[0, 1, 0, 0, 0, 0, 0, 0]), "0 0 1 2=11@0"),
-        (set_value(0, 1, 0), "0 0 0"),
+        (set_all(8, 0, &[0, 1, 0, 0, 0, 0, 0, 0]), "0 0 1 2=11@0"),
+        (set_value(8, 0, 1, 0), "0 0 0"),
         (timed_operate(3, 0, 1, &stops), "-1@2 0 0"),
         (operate(8, 0, &[(2, 32_767, 0)]), "0 0 1 3=34@1"),
         (timed_operate(4, 0, 1, &TAKE), "-1@0 0 0"),
@@ -81,7 +81,7 @@ fn woken_before_its_time_is_told() {
         (timed_operate(5, 0, 1, &TAKE), "-1@0 0 0"),
         (exit(5), "0 0 0"),
         (timed_operate(6, 0, 1, &TAKE), "-1@0 0 0"),
-        (remove(0), "0 0 0 6=43"),
+        (remove(8, 0), "0 0 0 6=43"),
         (clock(10), "0 0 0"),
     ]);
 }
@@ -106,7 +106,7 @@ fn a_look_leaves_the_start() {
     check_on_a_set(&[
         (timed_operate(1, 0, 10, &[(0, -2, 0)]), "-1@0 0 0"),
         (clock(6), "0 0 0"),
-        (set_value(0, 0, 1), "0 0 1"),
+        (set_value(8, 0, 0, 1), "0 0 1"),
         (clock(9), "0 0 0"),
         (operate(2, 0, &[(0, -1, 0)]), "0 0 1"),
         (clock(10), "0 0 0 1=11"),
@@ -119,9 +119,9 @@ fn a_wait_of_0() {
     check_on_a_set(&[
         (timed_operate(1, 0, 0, &TAKE), "11@0 0 0"),
         (timed_operate(1, 0, 0, &[(1, 1, UNDO), (0, -1, UNDO)]), "11@1 0 0"),
-        (read_all(0), "0 0 0 0 0 0 0 0 0 0 0 0 0 0 0 0 0 0 0 0 0 0 0 0 0"),
+        (read_all(8, 0), "0 0 0 0 0 0 0 0 0 0 0 0 0 0 0 0 0 0 0 0 0 0 0 0 0"),
         (timed_operate(1, 0, 0, &[(1, 1, 0)]), "0 0 0"),
-        (query(0, 1), "0 1 1 0 0"),
+        (query(8, 0, 1), "0 1 1 0 0"),
         (timed_operate(2, 0, 0, &[(1, 0, 0)]), "11@0 0 0"),
         (timed_operate(2, 0, 0, &[(0, 0, 0), (1, 32_767, 0)]), "34@1 0 0"),
         (timed_operate(2, 0, 0, &[(0, 0, 0), (0, -1, NOWAIT)]), "11@1 0 0"),
@@ -177,7 +177,7 @@ fn the_longest_wait() {
         (timed_operate(4, 0, longest, &TAKE), "-1@0 0 0"),
         (timed_operate(5, 0, 1, &TAKE), "-1@0 0 0"),
         (clock(TIME_MAX), "0 0 0"),
-        (set_value(0, 0, 3), "0 0 3 3=0 4=0 5=0"),
+        (set_value(8, 0, 0, 3), "0 0 3 3=0 4=0 5=0"),
     ]);
 }
 
@@ -186,14 +186,19 @@ fn the_longest_wait() {
 fn an_operate_in_every_rule() {
     let ones = [(7, 1, 0); 33];
     check(&[
-        (second::event::create(8, 0b0110, 0b1110), "0 0 0"),
+        (act_as(2, 7, 9), "0 0 0"),
+        (act_as(3, 7, 1), "0 0 0"),
+        (act_as(4, 5, 9), "0 0 0"),
+        (act_as(1, 5, 1), "0 0 0"),
+        (second::event::create(2, 8, 0o620), "0 0 0"),
         (timed_operate(2, 0, 5, &[(1, 0, 0)]), "0 0 0"),
-        (query(0, 1), "0 0 2 0 0"),
+        (query(8, 0, 1), "0 0 2 0 0"),
         (timed_operate(3, 0, 5, &[(2, 0, 0), (0, -1, 0)]), "-1@1 0 0"),
         (timed_operate(3, 0, 5, &TAKE), "16 0 0"),
         (timed_operate(2, 0, 5, &[(0, 1, UNDO)]), "0 0 1 3=0"),
-        (query(0, 2), "0 0 3 0 0"),
+        (query(8, 0, 2), "0 0 3 0 0"),
         (timed_operate(1, 0, 5, &[(2, 0, 0)]), "13 0 0"),
+        (timed_operate(1, 0, 5, &ones[..32]), "13 0 0"),
         (timed_operate(4, 0, 5, &[(2, 0, 0)]), "13 0 0"),
         (timed_operate(4, 0, 5, &ones[..32]), "0 0 0"),
         (timed_operate(4, 0, 5, &ones), "7 0 0"),
@@ -206,7 +211,7 @@ fn an_operate_in_every_rule() {
 #[test]
 fn bytes_that_are_no_whole_operations() {
     let mut host = Host::new(Rule::Quick);
-    host.handle(&Event::Create { count: 1, read: 0xFF, alter: 0xFF });
+    host.handle(&Event::Create { process: 8, count: 1, mode: 0o666 });
     for (length, code) in [(0, 22), (5, 22), (6, 0), (7, 22), (199, 22), (198, 7)] {
         for wait in [None, Some(0), Some(1)] {
             let operations = &vec![0; length];

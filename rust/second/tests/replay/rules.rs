@@ -1,6 +1,6 @@
 //! Rules and readings that the situations leave out.
 
-use second::event::{self, exit, operate, query, remove, set_value, signal};
+use second::event::{self, act_as, exit, operate, query, remove, set_value, signal};
 use second::{Event, Host, Rule, State, NOWAIT, UNDO};
 
 use crate::{asleep_by_an_adjustment, check, check_on_a_set, create};
@@ -9,20 +9,25 @@ use crate::{asleep_by_an_adjustment, check, check_on_a_set, create};
 fn checks_go_in_their_order() {
     let many = [(99, 1, 0); 33];
     check(&[
-        (event::create(0, 1, 1), "22 0 0"),
-        (event::create(9, 1, 1), "22 0 0"),
-        (event::create(2, 0b01, 0b10), "0 0 0"),
+        (event::create(1, 0, 0o246), "22 0 0"),
+        (event::create(1, 9, 0o246), "22 0 0"),
+        (event::create(1, 2, 0o1000), "22 0 0"),
+        (act_as(1, 7, 9), "0 0 0"),
+        (act_as(2, 5, 9), "0 0 0"),
+        (event::create(1, 2, 0o246), "0 0 0"),
         (operate(0, 0, &[]), "3 0 0"),
         (operate(9, 0, &[]), "3 0 0"),
         (operate(1, 99, &[]), "22 0 0"),
         (operate(1, 99, &many), "7 0 0"),
         (operate(1, 99, &[(99, 1, 0)]), "22 0 0"),
         (operate(1, -4, &[(0, 0, 0)]), "22 0 0"),
-        (operate(1, 0, &[(0, 1, 0), (2, 0, 0)]), "27 0 0"),
-        (operate(1, 0, &[(0, 1, 0)]), "13 0 0"),
-        (operate(2, 0, &[(0, 1, 0), (1, 0, 0)]), "13 0 0"),
-        (operate(2, 0, &[(0, -1, 0)]), "-1@0 0 0"),
-        (operate(2, 99, &many), "16 0 0"),
+        (operate(1, 0, &[(0, 0, 0), (2, 0, 0)]), "27 0 0"),
+        (operate(1, 0, &[(0, 0, 0)]), "13 0 0"),
+        (operate(2, 0, &[(0, 1, 0)]), "13 0 0"),
+        (operate(1, 0, &[(0, 1, 0), (1, 0, 0)]), "13 0 0"),
+        (operate(1, 0, &[(0, 0, 0), (1, 1, 0)]), "13 0 0"),
+        (operate(1, 0, &[(0, -1, 0)]), "-1@0 0 0"),
+        (operate(1, 99, &many), "16 0 0"),
     ]);
 }
 
@@ -31,21 +36,22 @@ fn refusals_of_the_other_events() {
     check_on_a_set(&[
         (create(), "0 1 0"),
         (create(), "0 2 0"),
-        (event::create(2, 0, 0), "0 3 0"),
+        (event::create(8, 2, 0), "0 3 0"),
         (create(), "28 0 0"),
-        (event::create(0, 0, 0), "22 0 0"),
-        (set_value(4, 0, 99_999), "22 0 0"),
-        (set_value(3, 2, 99_999), "22 0 0"),
-        (set_value(3, 1, 32_768), "34 0 0"),
-        (set_value(3, 1, -1), "34 0 0"),
-        (remove(4), "22 0 0"),
-        (remove(262_144), "22 0 0"),
-        (remove(i32::MIN), "22 0 0"),
+        (event::create(8, 0, 0), "22 0 0"),
+        (event::create(8, 1, 0o1000), "22 0 0"),
+        (set_value(8, 4, 0, 99_999), "22 0 0"),
+        (set_value(8, 3, 2, 99_999), "22 0 0"),
+        (set_value(8, 3, 1, 32_768), "34 0 0"),
+        (set_value(8, 3, 1, -1), "34 0 0"),
+        (remove(8, 4), "22 0 0"),
+        (remove(8, 262_144), "22 0 0"),
+        (remove(8, i32::MIN), "22 0 0"),
         (signal(0), "3 0 0"),
         (exit(9), "3 0 0"),
         (signal(8), "0 0 0"),
-        (query(-1, 0), "22 0 0 0 0"),
-        (query(3, 2), "22 0 0 0 0"),
+        (query(8, -1, 0), "22 0 0 0 0"),
+        (query(8, 3, 2), "22 0 0 0 0"),
     ]);
 }
 
@@ -55,8 +61,8 @@ fn touched_means_another_value_at_the_end() {
     check_on_a_set(&[
         (operate(1, 0, &[(0, -1, 0)]), "-1@0 0 0"),
         (operate(2, 0, &[(0, 1, 0), (0, -1, 0)]), "0 0 0/1"),
-        (set_value(0, 0, 0), "0 0 1"),
-        (set_value(0, 1, 5), "0 0 0/1"),
+        (set_value(8, 0, 0, 0), "0 0 1"),
+        (set_value(8, 0, 1, 5), "0 0 0/1"),
     ]);
 }
 
@@ -64,7 +70,7 @@ fn touched_means_another_value_at_the_end() {
 #[test]
 fn set_value_to_the_same_number_can_wake() {
     let mut run = asleep_by_an_adjustment().to_vec();
-    run.push((set_value(0, 0, 0), "0 0 1 1=34@2"));
+    run.push((set_value(8, 0, 0, 0), "0 0 1 1=34@2"));
     check_on_a_set(&run);
 }
 
@@ -79,15 +85,15 @@ fn only_a_done_array_sets_the_last_process() {
         (operate(3, 0, &[(1, 32_766, 0), (3, -1, 0)]), "-1@1 0 0"),
         (operate(4, 0, &[(0, 0, NOWAIT), (3, -1, 0)]), "-1@1 0 0"),
         (operate(5, 0, &[(2, 0, 0), (3, -1, 0)]), "-1@1 0 0"),
-        (set_value(0, 1, 2), "0 0 1/3 3=34@0"),
-        (set_value(0, 0, 1), "0 0 1/2 4=11@0"),
+        (set_value(8, 0, 1, 2), "0 0 1/3 3=34@0"),
+        (set_value(8, 0, 0, 1), "0 0 1/2 4=11@0"),
         (signal(5), "0 0 0 5=4"),
         (exit(6), "0 0 0"),
-        (query(0, 0), "0 1 1 0 0"),
-        (query(0, 1), "0 2 1 0 0"),
-        (query(0, 2), "0 0 1 0 0"),
-        (query(0, 3), "0 0 0 0 0"),
-        (query(0, 4), "0 1 1 0 0"),
+        (query(8, 0, 0), "0 1 1 0 0"),
+        (query(8, 0, 1), "0 2 1 0 0"),
+        (query(8, 0, 2), "0 0 1 0 0"),
+        (query(8, 0, 3), "0 0 0 0 0"),
+        (query(8, 0, 4), "0 1 1 0 0"),
     ]);
 }
 
@@ -95,14 +101,14 @@ fn only_a_done_array_sets_the_last_process() {
 fn wait_counts_are_of_the_operation_that_stops_now() {
     check_on_a_set(&[
         (operate(1, 0, &[(0, -1, 0), (1, 0, 0)]), "-1@0 0 0"),
-        (set_value(0, 1, 3), "0 0 1"),
-        (query(0, 0), "0 0 0 1 0"),
-        (query(0, 1), "0 3 0 0 0"),
+        (set_value(8, 0, 1, 3), "0 0 1"),
+        (query(8, 0, 0), "0 0 0 1 0"),
+        (query(8, 0, 1), "0 3 0 0 0"),
         (operate(2, 0, &[(0, 1, 0)]), "0 0 1"),
-        (query(0, 0), "0 1 2 0 0"),
-        (query(0, 1), "0 3 0 0 1"),
+        (query(8, 0, 0), "0 1 2 0 0"),
+        (query(8, 0, 1), "0 3 0 0 1"),
         (signal(1), "0 0 0 1=4"),
-        (query(0, 1), "0 3 0 0 0"),
+        (query(8, 0, 1), "0 3 0 0 0"),
     ]);
 }
 
@@ -111,7 +117,7 @@ fn wait_counts_are_of_the_operation_that_stops_now() {
 fn a_whole_set_at_once() {
     let mut host = Host::new(Rule::Quick);
     let bodies = [
-        event::create(3, 255, 255),
+        event::create(8, 3, 0o666),
         create(),
         operate(8, 0, &[(2, 3, 0)]),
         operate(1, 0, &[(2, -3, 0), (0, -1, 0)]),
@@ -122,14 +128,14 @@ fn a_whole_set_at_once() {
     for body in &bodies {
         host.handle(&Event::decode(body).expect("a good body"));
     }
-    let seen = host.query_set(0).expect("a live set");
+    let seen = host.query_set(8, 0).expect("a live set");
     let first = State { for_increase: 0b011, ..State::default() };
     let third = State { value: 3, last: 8, for_zero: 0b100, ..State::default() };
     assert!(seen.states().eq([first, State::default(), third]));
     assert_eq!(seen.judged, 3);
-    assert_eq!(host.query_set(1).map(|seen| seen.judged).ok(), Some(1));
-    assert!(host.query_set(2).is_err());
-    assert!(host.query_set(-4).is_err());
+    assert_eq!(host.query_set(8, 1).map(|seen| seen.judged).ok(), Some(1));
+    assert!(host.query_set(8, 2).is_err());
+    assert!(host.query_set(8, -4).is_err());
 }
 
 /// Every set is adjusted before the first is treated; slot 0 comes first, and the sleeper that
@@ -138,8 +144,8 @@ fn a_whole_set_at_once() {
 fn exit_treats_all_sets() {
     check_on_a_set(&[
         (create(), "0 1 0"),
-        (set_value(0, 0, 1), "0 0 0"),
-        (set_value(1, 0, 1), "0 0 0"),
+        (set_value(8, 0, 0, 1), "0 0 0"),
+        (set_value(8, 1, 0, 1), "0 0 0"),
         (operate(1, 0, &[(0, -1, UNDO)]), "0 0 0"),
         (operate(1, 1, &[(0, -1, UNDO)]), "0 0 0"),
         (operate(2, 1, &[(0, -1, 0)]), "-1@0 0 0"),
@@ -147,8 +153,8 @@ fn exit_treats_all_sets() {
         (operate(4, 0, &[(0, -1, 0)]), "-1@0 0 0"),
         (operate(1, 0, &[(7, -1, 0)]), "-1@0 0 0"),
         (exit(1), "0 0 2/4 4=0 2=0"),
-        (query(0, 0), "0 0 4 0 0"),
-        (query(0, 7), "0 0 0 0 0"),
+        (query(8, 0, 0), "0 0 4 0 0"),
+        (query(8, 0, 7), "0 0 0 0 0"),
     ]);
 }
 
@@ -185,6 +191,6 @@ fn a_shorter_call_of_the_same_process() {
         (operate(1, 0, &long), "16 0 0"),
         (operate(2, 4, &long), "22 0 0"),
         (operate(2, 0, &[(1, 1, 0)]), "0 0 1 1=0"),
-        (query(0, 0), "0 0 0 0 0"),
+        (query(8, 0, 0), "0 0 0 0 0"),
     ]);
 }

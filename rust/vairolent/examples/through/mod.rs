@@ -41,22 +41,29 @@ impl Handed<'_> {
     /// As this package takes it.
     pub fn event(&self) -> Event<'_> {
         match self.event {
-            second::Event::Create { count, read, alter } => Event::Create { count, read, alter },
+            second::Event::Create { process, count, mode } => {
+                Event::Create { process, count, mode }
+            }
             second::Event::Operate { process, identifier, wait, .. } => {
                 Event::Operate { process, identifier, wait, operations: &self.operations }
             }
-            second::Event::SetValue { identifier, number, value } => {
-                Event::SetValue { identifier, number, value }
+            second::Event::SetValue { process, identifier, number, value } => {
+                Event::SetValue { process, identifier, number, value }
             }
-            second::Event::Remove { identifier } => Event::Remove { identifier },
+            second::Event::Remove { process, identifier } => Event::Remove { process, identifier },
             second::Event::Signal { process } => Event::Signal { process },
             second::Event::Exit { process } => Event::Exit { process },
-            second::Event::Query { identifier, number } => Event::Query { identifier, number },
-            second::Event::Clock { time } => Event::Clock { time },
-            second::Event::SetAll { identifier, .. } => {
-                Event::SetAll { identifier, values: &self.values }
+            second::Event::Query { process, identifier, number } => {
+                Event::Query { process, identifier, number }
             }
-            second::Event::ReadAll { identifier } => Event::ReadAll { identifier },
+            second::Event::Clock { time } => Event::Clock { time },
+            second::Event::SetAll { process, identifier, .. } => {
+                Event::SetAll { process, identifier, values: &self.values }
+            }
+            second::Event::ReadAll { process, identifier } => {
+                Event::ReadAll { process, identifier }
+            }
+            second::Event::ActAs { process, user, group } => Event::ActAs { process, user, group },
         }
     }
 }

@@ -1,7 +1,7 @@
 //! Events as data: their bodies and lines are those of run files, and adjustments are what exits add.
 
 use second::Rule;
-use vairolent::{Event, Host, Operation, ALL, OPERATIONS, PROCESSES, SEMAPHORES, SETS};
+use vairolent::{Event, Host, Operation, OPERATIONS, PROCESSES, SEMAPHORES, SETS};
 
 /// A run file of these bodies.
 fn run_file(bodies: &[Vec<u8>]) -> Vec<u8> {
@@ -26,28 +26,33 @@ fn events<'a>(operations: &'a [Operation], values: &'a [i32]) -> Vec<Event<'a>> 
         operations,
     };
     vec![
-        Event::Create { count: 3, read: ALL, alter: 0b0111_1111 },
-        Event::Create { count: 9, read: 1, alter: 2 },
+        Event::ActAs { process: 4, user: 0x0102_0304, group: 0x0506_0708 },
+        Event::ActAs { process: 9, user: 1, group: 2 },
+        Event::Create { process: 5, count: 3, mode: 0o640 },
+        Event::Create { process: 5, count: 9, mode: 0x0203 },
         operate(1, 0, None, operations),
         operate(2, 0, Some(0x0506_0708), operations),
         operate(8, 0, None, &operations[..1]),
         operate(3, identifier, Some(1), &[]),
         operate(3, 0, Some(0), operations),
-        Event::SetValue { identifier, number: 0x0a0b, value: 0x0c0d_0e0f },
-        Event::SetAll { identifier: 0, values },
-        Event::SetAll { identifier, values: &[] },
-        Event::Query { identifier: 0, number: 2 },
-        Event::Query { identifier, number: 0x0a0b },
-        Event::ReadAll { identifier: 0 },
-        Event::ReadAll { identifier },
+        Event::SetValue { process: 5, identifier, number: 0x0a0b, value: 0x0c0d_0e0f },
+        Event::SetAll { process: 5, identifier: 0, values },
+        Event::SetAll { process: 5, identifier, values: &[] },
+        Event::Query { process: 5, identifier: 0, number: 2 },
+        Event::Query { process: 4, identifier: 0, number: 2 },
+        Event::Query { process: 8, identifier, number: 0x0a0b },
+        Event::ReadAll { process: 5, identifier: 0 },
+        Event::ReadAll { process: 4, identifier: 0 },
+        Event::ReadAll { process: 5, identifier },
         Event::Clock { time: 0x0506_0708 },
         Event::Clock { time: u64::MAX },
         Event::Signal { process: 1 },
         Event::Signal { process: 9 },
-        Event::SetValue { identifier: 0, number: 1, value: 700 },
+        Event::SetValue { process: 6, identifier: 0, number: 1, value: 700 },
         Event::Exit { process: 2 },
-        Event::Remove { identifier },
-        Event::Remove { identifier: 0 },
+        Event::Remove { process: 7, identifier },
+        Event::Remove { process: 4, identifier: 0 },
+        Event::Remove { process: 5, identifier: 0 },
     ]
 }
 
@@ -73,7 +78,7 @@ fn an_array_that_no_body_holds_has_none() {
     let operations = [Operation::new(0, 1); 256];
     assert!(operate(&operations).body().is_none());
     assert_eq!(operate(&operations[..255]).body().map(|body| body.len()), Some(7 + 6 * 255));
-    let set_all = |values| Event::SetAll { identifier: 0, values };
+    let set_all = |values| Event::SetAll { process: 1, identifier: 0, values };
     assert!(set_all(&[0; 256]).body().is_none());
     assert!(set_all(&[0; 255]).body().is_some());
     assert!(operations.len() > OPERATIONS);
@@ -83,7 +88,7 @@ fn an_array_that_no_body_holds_has_none() {
 #[test]
 fn adjustments_are_what_exits_add() {
     let mut host = Host::new();
-    let sets = [0; SETS].map(|_| host.create(SEMAPHORES as u8, ALL, ALL).expect("made"));
+    let sets = [0; SETS].map(|_| host.create(1, SEMAPHORES as u8, 0o666).expect("made"));
     let amount = |process: u8, slot: usize, number: u16| {
         1 + 40 * i16::from(process) + 9 * slot as i16 + number as i16
     };
@@ -104,7 +109,7 @@ fn adjustments_are_what_exits_add() {
                 let adjustment = adjustments[slot][usize::from(number)];
                 assert_eq!(adjustment, -amount(process, slot, number));
                 let [was, is] =
-                    [&before, &host].map(|host| host.query(set, number).expect("seen").value);
+                    [&before, &host].map(|host| host.query(1, set, number).expect("seen").value);
                 assert_eq!(i32::from(is), i32::from(was) + i32::from(adjustment));
             }
         }

@@ -1,6 +1,6 @@
 //! Waits that end by the clock: when, in which order, and that nothing else is changed by it.
 
-use vairolent::{Answer, Ending, Error, Host, Operation, Waking, ALL, TIME_MAX};
+use vairolent::{Answer, Ending, Error, Host, Operation, Waking, TIME_MAX};
 
 use crate::{sleep, with_set};
 
@@ -44,7 +44,7 @@ fn at_start_plus_wait_and_not_before() {
 #[test]
 fn oldest_first_over_all_sets() {
     let (mut host, first) = with_set(1);
-    let second = host.create(1, ALL, ALL).expect("a slot is free");
+    let second = host.create(3, 1, 0o666).expect("a slot is free");
     wait(&mut host, 6, second, 30);
     wait(&mut host, 2, first, 90);
     sleep(&mut host, first, &[4], &[TAKE]);
@@ -53,7 +53,7 @@ fn oldest_first_over_all_sets() {
     assert_eq!(over(&mut host, 9), []);
     wait(&mut host, 5, first, 1);
     assert_eq!(over(&mut host, 30), [6, 8, 1, 5]);
-    assert_eq!(host.query(first, 0).map(|semaphore| semaphore.increase_mask), Ok(0b0000_1010));
+    assert_eq!(host.query(3, first, 0).map(|semaphore| semaphore.increase_mask), Ok(0b0000_1010));
     assert_eq!(over(&mut host, 90), [2]);
     assert_eq!(over(&mut host, TIME_MAX), []);
     assert_eq!(host.operate(4, first, &[ADD]), Err(Error::ProcessAsleep));
@@ -112,13 +112,13 @@ fn nothing_else_is_changed() {
 fn woken_before_its_time_is_told() {
     let (mut host, set) = with_set(1);
     wait(&mut host, 3, set, 5);
-    assert_eq!(host.set_value(set, 0, 0).map(|wakings| wakings.looks()), Ok(1));
+    assert_eq!(host.set_value(1, set, 0, 0).map(|wakings| wakings.looks()), Ok(1));
     let mut woken = host.clone();
-    let wakings: Vec<Waking> = woken.set_value(set, 0, 1).expect("set").collect();
+    let wakings: Vec<Waking> = woken.set_value(1, set, 0, 1).expect("set").collect();
     assert_eq!(wakings, [Waking { process: 3, ending: Ending::Done }]);
     assert_eq!(over(&mut woken, 5), []);
     assert_eq!(over(&mut host, 4), []);
-    assert_eq!(host.set_value(set, 0, 0).map(|wakings| wakings.looks()), Ok(1));
+    assert_eq!(host.set_value(1, set, 0, 0).map(|wakings| wakings.looks()), Ok(1));
     assert_eq!(over(&mut host, 5), [3]);
 }
 
@@ -128,7 +128,7 @@ fn refused_by_a_look_before_its_time_is_told() {
     let (mut host, set) = with_set(2);
     let operations = [TAKE, Operation::new(1, 0).nowait()];
     assert_eq!(host.operate_within(2, set, &operations, 9), Ok(Answer::Asleep { position: 0 }));
-    let wakings: Vec<Waking> = host.set_all(set, &[1, 1]).expect("set").collect();
+    let wakings: Vec<Waking> = host.set_all(1, set, &[1, 1]).expect("set").collect();
     assert_eq!(wakings, [Waking { process: 2, ending: Ending::WouldSleep { position: 1 } }]);
     assert_eq!(over(&mut host, 9), []);
 }
@@ -137,13 +137,13 @@ fn refused_by_a_look_before_its_time_is_told() {
 #[test]
 fn ended_otherwise() {
     let (mut host, set) = with_set(1);
-    let other = host.create(1, ALL, ALL).expect("a slot is free");
+    let other = host.create(4, 1, 0o666).expect("a slot is free");
     for (process, set) in [(1, set), (2, other), (3, set)] {
         wait(&mut host, process, set, 5);
     }
     let mut wakings = host.signal(1).expect("interrupted");
     assert_eq!(wakings.next(), Some(Waking { process: 1, ending: Ending::Interrupted }));
-    let mut wakings = host.remove(other).expect("removed");
+    let mut wakings = host.remove(4, other).expect("removed");
     assert_eq!(wakings.next(), Some(Waking { process: 2, ending: Ending::Removed }));
     assert_eq!(host.exit(3).map(|wakings| wakings.len()), Ok(0));
     sleep(&mut host, set, &[1, 2, 3], &[TAKE]);

@@ -4,17 +4,18 @@ mod bodies;
 mod clock;
 mod endings;
 mod hosts;
+mod modes;
 mod positions;
 mod refusals;
 mod texts;
 mod traffic;
 
-use vairolent::{Answer, Host, Operation, ALL};
+use vairolent::{Answer, Host, Operation};
 
 /// A fresh host with one set, for all to read and alter.
 fn with_set(count: u8) -> (Host, i32) {
     let mut host = Host::new();
-    let set = host.create(count, ALL, ALL).expect("a slot is free");
+    let set = host.create(8, count, 0o666).expect("a slot is free");
     (host, set)
 }
 

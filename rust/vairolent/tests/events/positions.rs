@@ -70,7 +70,7 @@ fn of_the_look_that_ended_it() {
     for (process, operations) in (3..).zip(&arrays) {
         assert_eq!(host.operate(process, set, operations), Ok(Answer::Asleep { position: 1 }));
     }
-    let wakings: Vec<Waking> = host.set_value(set, 0, 32_765).expect("set").collect();
+    let wakings: Vec<Waking> = host.set_value(1, set, 0, 32_765).expect("set").collect();
     let endings = [Ending::WouldSleep { position: 0 }, Ending::OutOfRange { position: 0 }];
     assert_eq!(wakings[0], Waking { process: 3, ending: endings[0] });
     assert_eq!(wakings[1], Waking { process: 4, ending: endings[1] });
@@ -81,7 +81,7 @@ fn of_the_look_that_ended_it() {
 #[test]
 fn of_each_waking_its_own() {
     let (mut host, set) = with_set(2);
-    let _ = host.set_value(set, 1, VALUE_MAX.into());
+    let _ = host.set_value(1, set, 1, VALUE_MAX.into());
     let sleepers = |host: &mut Host| {
         sleep(host, set, &[2], &[TAKE, OTHER_ZERO.nowait()]);
         sleep(host, set, &[3], &[TAKE, ADD, Operation::new(1, 1)]);
@@ -94,10 +94,10 @@ fn of_each_waking_its_own() {
         other => panic!("not done: {other:?}"),
     }
     sleepers(&mut host);
-    assert_eq!(host.set_value(set, 0, 1).map(positions), Ok(wanted.clone()));
+    assert_eq!(host.set_value(1, set, 0, 1).map(positions), Ok(wanted.clone()));
     sleepers(&mut host);
     let values = [1, VALUE_MAX.into()];
-    assert_eq!(host.set_all(set, &values).map(positions), Ok(wanted.clone()));
+    assert_eq!(host.set_all(1, set, &values).map(positions), Ok(wanted.clone()));
     let _ = host.operate(1, set, &[ADD]);
     let _ = host.operate(1, set, &[TAKE.undo()]);
     sleepers(&mut host);
@@ -109,7 +109,7 @@ fn none_of_the_removed_and_the_interrupted() {
     let (mut host, set) = with_set(2);
     sleep(&mut host, set, &[5, 6], &[OTHER_ZERO, TAKE]);
     assert_eq!(host.signal(5).map(positions), Ok(vec![(5, None)]));
-    assert_eq!(host.remove(set).map(positions), Ok(vec![(6, None)]));
+    assert_eq!(host.remove(1, set).map(positions), Ok(vec![(6, None)]));
 }
 
 /// With a wait it is named as without; of a wait that is over none is.

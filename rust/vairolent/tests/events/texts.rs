@@ -19,7 +19,8 @@ fn errors() {
         (Error::Invalid, "EINVAL (22): no such set, or a bad argument"),
         (Error::TooManyOperations, "E2BIG (7): too many operations"),
         (Error::NoSemaphore, "EFBIG (27): a semaphore number is at or above the set's count"),
-        (Error::NotPermitted, "EACCES (13): not permitted"),
+        (Error::NotPermitted, "EACCES (13): the set's mode does not permit it"),
+        (Error::NotOwner, "EPERM (1): the set is another user's"),
         (Error::NoSlot, "ENOSPC (28): no slot is free"),
         (Error::BadValue, "ERANGE (34): a value to set is not 0 to 32,767"),
         (Error::BadTime, "EINVAL (22): a time is below the last, or above 2^63-1"),
@@ -73,7 +74,7 @@ fn answers_and_wakings() {
     sleep(&mut host, set, &[2, 4], &take);
     let wanted = "done (0), 3 looks; process 3: done (0)";
     assert_eq!(text(host.operate(1, set, &[Operation::new(0, 1)])), Ok(wanted.into()));
-    let wakings = host.remove(set).expect("removed");
+    let wakings = host.remove(1, set).expect("removed");
     let wanted = "0 looks; process 2: EIDRM (43): its set was removed; \
                   process 4: EIDRM (43): its set was removed";
     assert_eq!(wakings.to_string(), wanted);
@@ -88,8 +89,9 @@ fn a_waking_with_a_position() {
     let operations = [Operation::new(0, -1), Operation::new(1, 0).nowait()];
     sleep(&mut host, set, &[3], &operations);
     sleep(&mut host, set, &[4], &operations[..1]);
-    assert_eq!(host.set_value(set, 1, 5).map(|wakings| wakings.to_string()), Ok("1 look".into()));
-    let wakings = host.set_value(set, 0, 1).expect("set");
+    let wakings = host.set_value(1, set, 1, 5).expect("set");
+    assert_eq!(wakings.to_string(), "1 look");
+    let wakings = host.set_value(1, set, 0, 1).expect("set");
     let wanted = "2 looks; process 3: EAGAIN (11) at operation 1: an operation would sleep, and \
                   may not; process 4: done (0)";
     assert_eq!(wakings.to_string(), wanted);
@@ -104,7 +106,7 @@ fn one_look_and_a_query() {
     sleep(&mut host, set, &[5], &[Operation::new(0, -2)]);
     let answer = host.operate(6, set, &[Operation::new(0, 1)]).expect("done");
     assert_eq!(answer.to_string(), "done (0), 1 look");
-    let semaphore = host.query(set, 0).expect("seen");
+    let semaphore = host.query(1, set, 0).expect("seen");
     let wanted = "value 1, last process 6, waiting 1 for increase, 0 for zero";
     assert_eq!(semaphore.to_string(), wanted);
 }
@@ -113,7 +115,7 @@ fn one_look_and_a_query() {
 fn a_whole_set() {
     let (mut host, set) = with_set(2);
     sleep(&mut host, set, &[5], &[Operation::new(1, -2)]);
-    let seen = host.query_set(set).expect("seen");
+    let seen = host.query_set(1, set).expect("seen");
     let wanted = "0: value 0, last process 0, waiting 0 for increase, 0 for zero\n\
                   1: value 0, last process 0, waiting 1 for increase, 0 for zero\n";
     assert_eq!(seen.to_string(), wanted);

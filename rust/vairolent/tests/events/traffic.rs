@@ -1,10 +1,12 @@
 //! Events with arbitrary arguments: each is answered, refusals change nothing, only sleepers wake,
-//! what has a position is as that operation decides it, and the clock ends those who are due.
+//! what has a position is as that operation decides it, the clock ends those who are due, and calls
+//! are denied by owner and mode.
 
 use std::collections::HashSet;
 
 use vairolent::{
-    Answer, Ending, Error, Host, Operation, Waking, Wakings, ALL, OPERATIONS, TIME_MAX,
+    Answer, Ending, Error, Host, Operation, Waking, Wakings, MODE_MAX, OPERATIONS, PROCESSES,
+    TIME_MAX,
 };
 
 const EVENTS: usize = 200_000;
@@ -35,6 +37,11 @@ impl Random {
 
     fn value(&mut self) -> i32 {
         [0, 1, 2, 32_767, self.bits() as i32][self.below(5) as usize]
+    }
+
+    fn mode(&mut self) -> u16 {
+        let any = self.bits() as u16 & MODE_MAX;
+        [0o666, 0o624, any, MODE_MAX + 1 + any][self.below(8).min(3) as usize]
     }
 
     fn wait(&mut self) -> Option<u32> {
@@ -82,6 +89,12 @@ impl Call {
         }
     }
 
+    /// The bits that it needs.
+    fn bits(&self) -> u16 {
+        let bits = self.operations.iter().map(|each| if each.amount == 0 { READ } else { ALTER });
+        bits.fold(0, |all, bit| all | bit)
+    }
+
     /// Is its wait over by this time?
     fn is_due(&self, time: u64) -> bool {
         self.wait.map_or(false, |wait| self.start + u64::from(wait) <= time)
@@ -112,11 +125,48 @@ impl Call {
     }
 }
 
+/// The bits of three.
+const READ: u16 = 4;
+const ALTER: u16 = 2;
+
+/// A user and a group: of a process, or of a set.
+#[derive(Clone, Copy, Default)]
+struct Numbers {
+    user: u32,
+    group: u32,
+}
+
+/// A live set.
+struct Made {
+    identifier: i32,
+    owner: Numbers,
+    mode: u16,
+}
+
+impl Made {
+    /// Has who comes with these numbers all of these bits?
+    fn permits(&self, numbers: Numbers, bits: u16) -> bool {
+        let class = match numbers {
+            Numbers { user: 0, .. } => return true,
+            Numbers { user, .. } if user == self.owner.user => self.mode >> 6,
+            Numbers { group, .. } if group == self.owner.group => self.mode >> 3,
+            _ => self.mode,
+        };
+        class & bits == bits
+    }
+
+    fn permits_removal(&self, numbers: Numbers) -> bool {
+        numbers.user == 0 || numbers.user == self.owner.user
+    }
+}
+
 /// A host, and what is known of it.
 struct Traffic {
     random: Random,
     host: Host,
-    sets: Vec<i32>,
+    sets: Vec<Made>,
+    /// Process 1 first.
+    numbers: [Numbers; PROCESSES],
     /// Oldest first.
     asleep: Vec<Call>,
     /// The last told.
@@ -131,6 +181,7 @@ impl Traffic {
             random: Random(0x5EED),
             host: Host::new(),
             sets: Vec::new(),
+            numbers: [Numbers::default(); PROCESSES],
             asleep: Vec::new(),
             time: 0,
             errors: HashSet::new(),
@@ -144,11 +195,34 @@ impl Traffic {
 
     fn identifier(&mut self) -> i32 {
         let at = self.random.near(4) as usize;
-        self.sets.get(at).copied().unwrap_or(self.random.near(16) as i32)
+        let other = self.random.near(16) as i32;
+        self.sets.get(at).map_or(other, |made| made.identifier)
     }
 
     fn is_asleep(&self, process: u8) -> bool {
         self.asleep.iter().any(|call| call.process == process)
+    }
+
+    /// A process that is awake, and a live set.
+    fn caller(&self, process: u8, identifier: i32) -> Option<(Numbers, &Made)> {
+        let numbers = *self.numbers.get(usize::from(process).checked_sub(1)?)?;
+        let made = self.sets.iter().find(|made| made.identifier == identifier)?;
+        (!self.is_asleep(process)).then_some((numbers, made))
+    }
+
+    /// It is refused as the call of a sleeper exactly where it is one.
+    fn check_awake<T>(&self, process: u8, told: &Result<T, Error>) {
+        let refused = matches!(told, Err(Error::ProcessAsleep));
+        assert_eq!(refused, self.is_asleep(process));
+    }
+
+    /// .. and as not permitted where the set denies one of these bits.
+    fn check<T>(&self, process: u8, identifier: i32, bits: u16, told: &Result<T, Error>) {
+        self.check_awake(process, told);
+        let refused = matches!(told, Err(Error::NotPermitted));
+        let caller = self.caller(process, identifier);
+        let denied = caller.map_or(false, |(numbers, made)| !made.permits(numbers, bits));
+        assert_eq!(refused, denied);
     }
 
     /// Takes out the call of a process that is asleep.
@@ -159,7 +233,7 @@ impl Traffic {
 
     fn event(&mut self) {
         let before = self.host.clone();
-        let refused = match self.random.below(44) {
+        let refused = match self.random.below(46) {
             0..=1 => self.create(),
             2..=29 => self.operate(),
             30..=31 => self.set_value(),
@@ -168,6 +242,7 @@ impl Traffic {
             35..=36 => self.signal(),
             37..=38 => self.exit(),
             39..=42 => self.clock(),
+            43..=44 => self.act_as(),
             _ => self.query(),
         };
         if let Err(error) = refused {
@@ -177,9 +252,23 @@ impl Traffic {
     }
 
     fn create(&mut self) -> Result<(), Error> {
-        let count = self.random.near(4) as u8;
-        let mask = ALL & !(1 << self.random.below(8));
-        self.sets.push(self.host.create(count, ALL, mask)?);
+        let (process, count) = (self.process(), self.random.near(4) as u8);
+        let mode = self.random.mode();
+        let told = self.host.create(process, count, mode);
+        self.check_awake(process, &told);
+        let (identifier, owner) = (told?, self.numbers[usize::from(process) - 1]);
+        self.sets.push(Made { identifier, owner, mode });
+        Ok(())
+    }
+
+    fn act_as(&mut self) -> Result<(), Error> {
+        let process = self.process();
+        let numbers =
+            Numbers { user: self.random.near(4) as u32, group: self.random.near(3) as u32 };
+        let told = self.host.act_as(process, numbers.user, numbers.group);
+        self.check_awake(process, &told);
+        told?;
+        self.numbers[usize::from(process) - 1] = numbers;
         Ok(())
     }
 
@@ -192,7 +281,12 @@ impl Traffic {
         let call = Call { process, identifier, operations, start, wait };
         let before = self.host.clone();
         let answer = call.hand_in(call.operations.len(), &mut self.host);
-        assert_eq!(answer == Err(Error::ProcessAsleep), self.is_asleep(process));
+        self.check_awake(process, &answer);
+        // What these refuse is not asked for permission.
+        let earlier = [Error::Invalid, Error::TooManyOperations, Error::NoSemaphore];
+        if !earlier.iter().any(|&error| answer == Err(error)) {
+            self.check(process, identifier, call.bits(), &answer);
+        }
         call.check(&before, &answer);
         call.check_wait(&before, &answer);
         match answer? {
@@ -203,29 +297,39 @@ impl Traffic {
     }
 
     fn set_value(&mut self) -> Result<(), Error> {
-        let (identifier, number) = (self.identifier(), self.random.near(3) as u16);
-        let wakings = self.host.set_value(identifier, number, self.random.value())?;
-        self.wake(wakings);
+        let (process, identifier) = (self.process(), self.identifier());
+        let (number, value) = (self.random.near(3) as u16, self.random.value());
+        let told = self.host.set_value(process, identifier, number, value);
+        self.check(process, identifier, ALTER, &told);
+        self.wake(told?);
         Ok(())
     }
 
     /// Where nobody is done by it, the values stay as they are set.
     fn set_all(&mut self) -> Result<(), Error> {
-        let identifier = self.identifier();
+        let (process, identifier) = (self.process(), self.identifier());
         let values: Vec<i32> = (0..self.random.below(4)).map(|_| self.random.value()).collect();
-        let wakings = self.host.set_all(identifier, &values)?;
+        let told = self.host.set_all(process, identifier, &values);
+        self.check(process, identifier, ALTER, &told);
+        let wakings = told?;
         if wakings.clone().all(|waking| waking.ending != Ending::Done) {
-            let set = self.host.query_set(identifier)?;
-            assert!(set.semaphores().iter().map(|each| i32::from(each.value)).eq(values));
+            if let Ok(set) = self.host.query_set(process, identifier) {
+                assert!(set.semaphores().iter().map(|each| i32::from(each.value)).eq(values));
+            }
         }
         self.wake(wakings);
         Ok(())
     }
 
     fn remove(&mut self) -> Result<(), Error> {
-        let identifier = self.identifier();
-        let wakings = self.host.remove(identifier)?;
-        self.sets.retain(|&each| each != identifier);
+        let (process, identifier) = (self.process(), self.identifier());
+        let told = self.host.remove(process, identifier);
+        self.check_awake(process, &told);
+        let caller = self.caller(process, identifier);
+        let denied = caller.map_or(false, |(numbers, made)| !made.permits_removal(numbers));
+        assert_eq!(told == Err(Error::NotOwner), denied);
+        let wakings = told?;
+        self.sets.retain(|made| made.identifier != identifier);
         self.wake(wakings);
         Ok(())
     }
@@ -260,11 +364,14 @@ impl Traffic {
     }
 
     fn query(&mut self) -> Result<(), Error> {
-        let (identifier, number) = (self.identifier(), self.random.near(3) as u16);
-        let semaphore = self.host.query(identifier, number)?;
+        let (process, identifier) = (self.process(), self.identifier());
+        let number = self.random.near(3) as u16;
+        let told = self.host.query(process, identifier, number);
+        self.check(process, identifier, READ, &told);
+        let semaphore = told?;
         assert_eq!(semaphore.increase, semaphore.increase_mask.count_ones());
         assert_eq!(semaphore.zero, semaphore.zero_mask.count_ones());
-        let set = self.host.query_set(identifier)?;
+        let set = self.host.query_set(process, identifier)?;
         assert_eq!(set.semaphores()[usize::from(number)], semaphore);
         let waiting = set.semaphores().iter().map(|each| each.increase + each.zero);
         assert_eq!(waiting.sum::<u32>(), set.judged());
@@ -305,6 +412,7 @@ fn every_error_and_every_ending_comes() {
         Error::TooManyOperations,
         Error::NoSemaphore,
         Error::NotPermitted,
+        Error::NotOwner,
         Error::NoSlot,
         Error::BadValue,
         Error::BadTime,

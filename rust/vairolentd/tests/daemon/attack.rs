@@ -164,7 +164,7 @@ fn a_call_while_another_sleeps() {
     assert_eq!(daemon.replay(&folder), 5);
     let run = &runs::all(&folder.record())[0];
     assert_eq!(run.bodies()[2], [5, 1], "a signal for number 1");
-    assert!(run.lines.contains(&format!("2 0 0 0 1={EINTR}\n")), "{}", run.lines);
+    assert!(run.lines.contains(&format!(" 0 0 0 1={EINTR}\n")), "{}", run.lines);
 }
 
 /// Its answers stay in the socket until there is no more room.

@@ -46,7 +46,7 @@ pub fn operate(set: i32, wait: i64, operations: &[Operation]) -> Vec<u8> {
     packet(2, [set, 0, 0], wait, &data)
 }
 
-/// A setting of far too many values: refused, and as long an event as there is, 406 bytes.
+/// A setting of far too many values: refused, and as long an event as there is, 407 bytes.
 pub fn long_event(set: i32) -> Vec<u8> {
     packet(3, [set, 0, SET_ALL], 0, &[0; 198])
 }

@@ -86,7 +86,7 @@ fn no_room_in_memory_either() {
     let client = Client::new(&folder);
     let set = client.make(1);
     fill(&daemon);
-    let in_a_file = (65_535 - 2) / 406;
+    let in_a_file = (65_535 - 2) / 407;
     client.repeat(256 * (in_a_file - 1), &long_event(set), EINVAL);
     let refused = (0..2 * in_a_file).any(|_| client.call(&long_event(set)).code == ENOSPC);
     assert!(refused, "there is a bound");

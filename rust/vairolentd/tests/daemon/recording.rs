@@ -87,7 +87,7 @@ fn more_removals_than_a_beginning_can_hold() {
     let daemon = Daemon::start(&folder);
     let client = Client::new(&folder);
     let kept = client.make(1);
-    for _ in 0..1_930 {
+    for _ in 0..1_730 {
         let set = client.make(2);
         assert_eq!(client.control(set, 0, REMOVE, &[]).code, 0);
     }
@@ -101,7 +101,7 @@ fn more_removals_than_a_beginning_can_hold() {
     let runs = runs::all(&folder.record());
     let names: Vec<&str> = runs.iter().map(|run| &run.name[..]).collect();
     assert_eq!(names[..3], ["000001.run", "000002.more", "000003.more"]);
-    assert_eq!(runs.iter().map(Run::events).sum::<usize>(), 1 + 2 * 1_930 + 401);
+    assert_eq!(runs.iter().map(|run| run.bodies().len()).sum::<usize>(), 1 + 2 * 1_730 + 401);
     let mut host = Host::new();
     for run in &runs {
         assert!(listing(&mut host, run) == run.lines, "{}", run.name);
@@ -179,7 +179,7 @@ fn what_was_left_is_made_whole() {
     assert_eq!(runs::all(&folder.record()).len(), 1);
 }
 
-/// NNNNNN.who has a line for each number, from its first event in each file on.
+/// NNNNNN.who has a line for each number, from its first event in each file on, whatever the call is.
 #[test]
 fn who_had_which_number() {
     let folder = Folder::new();
@@ -198,11 +198,25 @@ fn who_had_which_number() {
     };
     let first = format!("process 1 is pid {}, ", std::process::id());
     let second = format!("process 2 is pid {}, ", process.pid());
-    assert!(who(1).starts_with(&format!("event 1: {first}")), "{}", who(1));
+    assert!(who(1).starts_with(&format!("event 0: {first}")), "{}", who(1));
     assert_eq!(who(1).matches(&second).count(), 1, "{}", who(1));
     for words in [first, second] {
         assert_eq!(who(2).matches(&format!("event 0: {words}")).count(), 1, "{}", who(2));
     }
+}
+
+/// Who comes without a connection is new, and finds the number free that it had before.
+#[test]
+fn who_has_left_has_no_number() {
+    let folder = Folder::new();
+    let daemon = Daemon::start(&folder);
+    for _ in 0..10 {
+        assert_eq!(Client::new(&folder).control(0, 0, GET_VALUE, &[]).code, EINVAL);
+    }
+    assert_eq!(daemon.replay(&folder), 10);
+    let who = fs::read_to_string(folder.record().join("000001.who")).expect("written");
+    assert!(who.starts_with("event 0: process 1 is "), "{who}");
+    assert_eq!(who.lines().count(), 1, "{who}");
 }
 
 #[test]
@@ -248,5 +262,5 @@ fn files_that_are_there() {
         assert_eq!(kept.ok().as_deref(), Some(name), "{said}");
     }
     let run = Run::read(&folder.record().join("000042.run"));
-    assert_eq!((run.events(), run.replayed()), (1, run.lines.clone()));
+    assert_eq!((run.bodies().len(), run.replayed()), (1, run.lines.clone()));
 }

@@ -1,7 +1,6 @@
 use native.Mathlib.Omega.{arith}
 use mathlib.Core.Path.{refl}
-use lib.ListN.{length-set}
-use Rattle.host.specs.Parts.{generations, counts, readers, alterers}
+use Rattle.host.specs.Parts.{generations, counts, owners, owningGroups, modes}
 use Rattle.host.proofs.PartLaws.{write-beyond}
 use Rattle.host.proofs.SleeperLaws.{says, says-number, says-byte, same-beyond}
 use borrow.Author.Needs.{needs}
@@ -17,36 +16,55 @@ add-put-half c = search needs
 put-half-requires : tie.Need-put-half-requires
 put-half-requires c κs = search needs
 
-add-all : tie.Need-add-all
-add-all c = search needs
+add-host : tie.Need-add-host
+add-host c = search needs
 
-slice-write-all : tie.Need-slice-write-all
-slice-write-all c = search needs
+element-write-host : tie.Need-element-write-host
+element-write-host c = search needs
 
-add-all-2 : tie.Need-add-all-2
-add-all-2 c = search needs
+mul-put-word : tie.Need-mul-put-word
+mul-put-word c = search needs
 
-slice-write-all-2 : tie.Need-slice-write-all-2
-slice-write-all-2 c = simp length-set (search needs)
+add-put-word : tie.Need-add-put-word
+add-put-word c = search needs
 
-add-all-3 : tie.Need-add-all-3
-add-all-3 c = search needs
+put-word-requires : tie.Need-put-word-requires
+put-word-requires c κs = search needs
 
-slice-write-all-3 : tie.Need-slice-write-all-3
-slice-write-all-3 c = simp length-set (search needs)
+mul-put-word-2 : tie.Need-mul-put-word-2
+mul-put-word-2 c = search needs
+
+add-put-word-2 : tie.Need-add-put-word-2
+add-put-word-2 c = search needs
+
+put-word-requires-2 : tie.Need-put-word-requires-2
+put-word-requires-2 c κs = search needs
+
+mul-put-half-2 : tie.Need-mul-put-half-2
+mul-put-half-2 c = search needs
+
+add-put-half-2 : tie.Need-add-put-half-2
+add-put-half-2 c = search needs
+
+put-half-requires-2 : tie.Need-put-half-requires-2
+put-half-requires-2 c κs = search needs
 
 returns : tie.Need-returns
 returns c =
-    let b = c .before .before in
-    let a = b .before .before .before .before .args in
-    let i = a .slot in
-    let s = a .set in
-    let l = b .before .before .before .if1 .taken in
-    let s₀ = says (a .host .now) (search needs) in
-    let s₁ = says-number s₀ generations i (s .generation) l (omega arith) (b .put-half .ensures) in
-    let s₂ = says-byte s₁ counts i (s .count) refl l (omega arith) in
-    let s₃ = says-byte s₂ readers i (s .read) refl l (omega arith) in
-    says-byte s₃ alterers i (s .alter) refl l (omega arith) .same
+    let group = c .before .before in
+    let owner = group .before .before in
+    let generation = owner .before .before in
+    let there = generation .before .before in
+    let i = there .before .args .slot in
+    let s = there .before .args .set in
+    let l = there .if1 .taken in
+    let good = there .before .good in
+    let s₀ = says (there .before .args .host .now) (search needs) in
+    let s₁ = says-number s₀ generations i (s .generation) l (omega (arith, good)) (generation .put-half .ensures) in
+    let s₂ = says-byte s₁ counts i (s .count) refl l (omega (arith, good)) in
+    let s₃ = says-number s₂ owners i (s .owner) l (omega (arith, good)) (owner .put-word .ensures) in
+    let s₄ = says-number s₃ owningGroups i (s .group) l (omega (arith, good)) (group .put-word2 .ensures) in
+    says-number s₄ modes i (s .mode) l (omega (arith, good)) (c .put-half2 .ensures) .same
 
 returns-2 : tie.Need-returns-2
 returns-2 c =
@@ -56,8 +74,9 @@ returns-2 c =
     let h = c .before .args .host .now in
     let e₁ = write-beyond generations i (s .generation) h l in
     let e₂ = same-beyond h e₁ counts i (s .count) l in
-    let e₃ = same-beyond h e₂ readers i (s .read) l in
-    same-beyond h e₃ alterers i (s .alter) l
+    let e₃ = same-beyond h e₂ owners i (s .owner) l in
+    let e₄ = same-beyond h e₃ owningGroups i (s .group) l in
+    same-beyond h e₄ modes i (s .mode) l
 
 pub put-set-spec : {M : Type 1} → statement M
 put-set-spec =
@@ -66,11 +85,16 @@ put-set-spec =
     mul-put-half
     add-put-half
     put-half-requires
-    add-all
-    slice-write-all
-    add-all-2
-    slice-write-all-2
-    add-all-3
-    slice-write-all-3
+    add-host
+    element-write-host
+    mul-put-word
+    add-put-word
+    put-word-requires
+    mul-put-word-2
+    add-put-word-2
+    put-word-requires-2
+    mul-put-half-2
+    add-put-half-2
+    put-half-requires-2
     returns
     returns-2)

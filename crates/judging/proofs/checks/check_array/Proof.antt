@@ -1,6 +1,5 @@
 -- The invariant: the code of the operations from here is that of all, and the mask with the bits of those from here that of
--- all. What the process may is found before the loop, with its bit's remainder, which a mask of eight bits sees alike
--- (proofs/Masks.antt).
+-- all.
 use borrow.Author.Needs.{needs}
 use borrow.Author.Tests.{le-leb, lt-leb}
 use mathlib.Core.Path.{_≡_, refl, sym, ap, _∙_}
@@ -11,9 +10,7 @@ use Prim.Native.Nat.{ℕ, _+_, _-_, _≤_}
 use lib.Bits.{bitOr}
 use mir.Syntax.{w16}
 use mir.Facts.{toZ-ofZ}
-use Rattle.model.specs.declared.Set.{Set}
-use Rattle.model.specs.Operation.{operationsOf, hasBit, isZero}
-use Rattle.model.specs.Marks.{bitOf}
+use Rattle.model.specs.Operation.{operationsOf, isZero}
 use Rattle.judging.specs.Named.{namedWithin}
 use Rattle.judging.proofs.Operations.{rest, all}
 use Rattle.judging.proofs.NamedLaws.{more, done}
@@ -21,29 +18,17 @@ use Rattle.judging.proofs.Refusals as law
 use Rattle.judging.proofs.checks.check_array.Statement.{statement}
 use Rattle.judging.proofs.checks.check_array.Tie as tie
 
-abbrev setOf : ℕ → ℕ → ℕ → ℕ → Set
-setOf generation count read alter = record { generation = generation; count = count; read = read; alter = alter }
-
 abbrev Inv-loop : tie.InvT-loop
-Inv-loop process count read alter bytes bit reads alters both past operations allowed₀ names₀ i₀ allowed names i =
+Inv-loop count reads alters bytes both past operations allowed₀ names₀ i₀ allowed names i =
     (i ≤ operations)
-    × ((generation : ℕ) → law.refusal process (setOf generation count read alter) allowed (rest bytes i) ≡ law.refusal process (setOf generation count read alter) true (operationsOf bytes))
+    × (law.refusal count reads alters allowed (rest bytes i) ≡ law.refusal count reads alters true (operationsOf bytes))
     × (namedWithin names (rest bytes i) ≡ namedWithin 0 (operationsOf bytes))
 
 abbrev μ-loop : tie.MeasureT-loop
-μ-loop process count read alter bytes bit reads alters both past operations allowed₀ names₀ i₀ allowed names i = operations - i
-
-bit-of-requires : tie.Need-bit-of-requires Inv-loop μ-loop
-bit-of-requires c κs = search needs
-
-has-bit-requires : tie.Need-has-bit-requires Inv-loop μ-loop
-has-bit-requires c κs = search needs
-
-has-bit-requires-2 : tie.Need-has-bit-requires-2 Inv-loop μ-loop
-has-bit-requires-2 c κs = search needs
+μ-loop count reads alters bytes both past operations allowed₀ names₀ i₀ allowed names i = operations - i
 
 loop-holds : tie.Need-loop-holds Inv-loop μ-loop
-loop-holds c = (search needs, λ g. rw all, rw all)
+loop-holds c = (search needs, rw all, rw all)
 
 mul-operation-at : tie.Need-mul-operation-at Inv-loop μ-loop
 mul-operation-at c = omega arith
@@ -51,21 +36,19 @@ mul-operation-at c = omega arith
 operation-at-requires : tie.Need-operation-at-requires Inv-loop μ-loop
 operation-at-requires c κs = search needs
 
--- where the loop stands; what the function was given; and the set that this tells of
+-- where the loop stands, and what the function was given
 abbrev Loop : Type 0
 Loop = tie.At-loop Inv-loop μ-loop
 
 abbrev start : Loop → tie.Start Inv-loop μ-loop
-start c = c .before .before .before .before .before
-
-abbrev set-at : Loop → ℕ → Set
-set-at c generation = setOf generation (start c .args .count) (start c .args .read) (start c .args .alter)
+start c = c .before .before
 
 returns : tie.Need-returns Inv-loop μ-loop
 returns c =
     let r = c .before .before in
     let l = r .before .before in
-    (λ g. law.high (start l .args .process) (set-at l g) _ (l .loop .i) (l .loop .allowed) (r .operation-at .result) (r .before .loop-test .taken) (r .operation-at .ensures) (le-leb _ _ (c .if1 .taken)) ∙ l .loop .inv .1 g, refl)
+    let a = start l .args in
+    (law.high (a .count) (a .reads) (a .alters) _ (l .loop .i) (l .loop .allowed) (r .operation-at .result) (r .before .loop-test .taken) (r .operation-at .ensures) (le-leb _ _ (c .if1 .taken)) ∙ l .loop .inv .1, refl)
 
 number-bit-requires : tie.Need-number-bit-requires Inv-loop μ-loop
 number-bit-requires c κs = search needs
@@ -86,40 +69,32 @@ Turn = tie.After-number-bit Inv-loop μ-loop
 abbrev read : Turn → tie.After-operation-at Inv-loop μ-loop
 read c = c .before .before .before
 
--- the operation's amount is 0
-abbrev zero : Turn → Bool
-zero c = isZero (read c .operation-at .result .amount)
-
--- what the process may is what the definition asks
+-- what the caller may is what the definition asks
 abbrev Asked : Turn → Bool → Type 0
-Asked c may = let a = start (read c .before .before) .args in may ≡ hasBit (cond (isZero (read c .operation-at .result .amount)) (a .read) (a .alter)) (bitOf (a .process))
+Asked c may = let a = start (read c .before .before) .args in may ≡ cond (isZero (read c .operation-at .result .amount)) (a .reads) (a .alters)
 
 may-is : (c : tie.After-may Inv-loop μ-loop) → Asked (c .before .before .before) (c .may .result)
 may-is c =
     let t = c .before .before .before in
-    let b = read t .before .before .before in
-    let s = start (read t .before .before) in
     let e = toZ-ofZ {w = w16} {z = read t .operation-at .result .amount} (record { sfits = c .before .struct-told .given .1 .0 .1 }) in
-    law.may-is (s .args .process) (s .args .read) (s .args .alter) _ _ _ (s .fits .read .fits) (s .fits .alter .fits) (b .before .before .bit-of .ensures) (b .before .has-bit .ensures) (b .has-bit2 .ensures) (zero t) _ (rw e at (c .may .ensures))
+    rw e at (c .may .ensures)
 
 both-is : (c : tie.Else2 Inv-loop μ-loop) → Asked (c .before) true
-both-is c =
-    let t = c .before in
-    let b = read t .before .before .before in
-    let s = start (read t .before .before) in
-    law.both-is (s .args .process) (s .args .read) (s .args .alter) _ _ _ (s .fits .read .fits) (s .fits .alter .fits) (b .before .before .bit-of .ensures) (b .before .has-bit .ensures) (b .has-bit2 .ensures) (zero t) (c .if2 .left)
+both-is c = let a = start (read (c .before) .before .before) .args in law.both-is (a .reads) (a .alters) (isZero (read (c .before) .operation-at .result .amount)) (c .if2 .left)
 
 -- one operation more is allowed or not
 abbrev Going : Turn → Bool → Type 0
 Going c allowed =
     let l = read c .before .before in
-    (generation : ℕ) → law.refusal (start l .args .process) (set-at l generation) allowed (rest (start l .args .bytes .now) (l .loop .i + 1)) ≡ law.refusal (start l .args .process) (set-at l generation) true (operationsOf (start l .args .bytes .now))
+    let a = start l .args in
+    law.refusal (a .count) (a .reads) (a .alters) allowed (rest (a .bytes .now) (l .loop .i + 1)) ≡ law.refusal (a .count) (a .reads) (a .alters) true (operationsOf (a .bytes .now))
 
 goes : (c : Turn) (may : Bool) → Asked c may → Going c (read c .before .before .loop .allowed && may)
-goes c may e g =
+goes c may e =
     let r = read c in
     let l = r .before .before in
-    law.on (start l .args .process) (set-at l g) _ (l .loop .i) (l .loop .allowed) (r .operation-at .result) (r .before .loop-test .taken) (r .operation-at .ensures) (lt-leb _ _ (c .before .if1 .left)) may e ∙ l .loop .inv .1 g
+    let a = start l .args in
+    law.on (a .count) (a .reads) (a .alters) _ (l .loop .i) (l .loop .allowed) (r .operation-at .result) (r .before .loop-test .taken) (r .operation-at .ensures) (lt-leb _ _ (c .before .if1 .left)) may e ∙ l .loop .inv .1
 
 loop-again : tie.Need-loop-again Inv-loop μ-loop
 loop-again c =
@@ -137,15 +112,17 @@ loop-again c =
 
 returns-2 : tie.Need-returns-2 Inv-loop μ-loop
 returns-2 c =
-    let l = c .before .before in (
-      λ g. law.end (start l .args .process) (set-at l g) (start l .args .bytes .now) (l .loop .i) (l .loop .allowed) (omega arith) true (c .if3 .taken) ∙ l .loop .inv .1 g,
+    let l = c .before .before in
+    let a = start l .args in (
+      law.end (a .count) (a .reads) (a .alters) (a .bytes .now) (l .loop .i) (l .loop .allowed) (omega arith) true (c .if3 .taken) ∙ l .loop .inv .1,
       sym (done _ (l .loop .names) (l .loop .i) (omega arith)) ∙ l .loop .inv .2,
     )
 
 returns-3 : tie.Need-returns-3 Inv-loop μ-loop
 returns-3 c =
     let l = c .before .before in
-    (λ g. law.end (start l .args .process) (set-at l g) (start l .args .bytes .now) (l .loop .i) (l .loop .allowed) (omega arith) false (c .if3 .left) ∙ l .loop .inv .1 g, refl)
+    let a = start l .args in
+    (law.end (a .count) (a .reads) (a .alters) (a .bytes .now) (l .loop .i) (l .loop .allowed) (omega arith) false (c .if3 .left) ∙ l .loop .inv .1, refl)
 
 pub check-array-spec : {M : Type 1} → statement M
 check-array-spec =
@@ -153,9 +130,6 @@ check-array-spec =
     (tie.spec
     Inv-loop
     μ-loop
-    bit-of-requires
-    has-bit-requires
-    has-bit-requires-2
     loop-holds
     mul-operation-at
     operation-at-requires

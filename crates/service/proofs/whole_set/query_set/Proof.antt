@@ -4,8 +4,9 @@ use mathlib.Core.Path.{_≡_, sym, _∙_}
 use mir.Facts.{toZ-ofZ}
 use borrow.Author.Needs.{needs}
 use Rattle.model.specs.Limits.{slots}
-use Rattle.model.specs.Checks.{slotOf, checkSet}
+use Rattle.model.specs.Checks.{slotOf, checkReadAll}
 use Rattle.host.specs.Holding.{Host, hostIn, stateIn}
+use Rattle.service.proofs.EventLaws.{held-seated}
 use Rattle.service.proofs.SetShown.{set-refused, set-small, set-shown}
 use Rattle.service.proofs.whole_set.query_set.Statement.{statement}
 use Rattle.service.proofs.whole_set.query_set.Tie as tie
@@ -14,8 +15,8 @@ abbrev host : tie.Start → Host
 host s = hostIn (s .args .host .now) (s .args .adjustments .now)
 
 -- the code, and the slot
-code-is : (c : tie.After-check-set) → let s = c .before in c .check-set .result ≡ checkSet (stateIn (host s)) (s .args .identifier)
-code-is c = let s = c .before in rw (toZ-ofZ (s .fits .identifier)) at (c .check-set .ensures (s .args .adjustments .now))
+code-is : (c : tie.After-check-access) → let s = c .before in c .check-access .result ≡ checkReadAll (stateIn (host s)) (s .args .process) (s .args .identifier)
+code-is c = let s = c .before in rw (toZ-ofZ (s .fits .identifier)) at (c .check-access .ensures (s .args .adjustments .now))
 
 abbrev of-slot : tie.After-slot-of → tie.Start
 of-slot c = c .before .before .before
@@ -23,14 +24,14 @@ of-slot c = c .before .before .before
 slot-is : (c : tie.After-slot-of) → c .slot-of .result ≡ slotOf (of-slot c .args .identifier)
 slot-is c = rw (toZ-ofZ (of-slot c .fits .identifier)) at (c .slot-of .ensures)
 
-passes : (c : tie.After-slot-of) → let s = of-slot c in checkSet (stateIn (host s)) (s .args .identifier) ≡ 0
+passes : (c : tie.After-slot-of) → let s = of-slot c in checkReadAll (stateIn (host s)) (s .args .process) (s .args .identifier) ≡ 0
 passes c = sym (code-is (c .before .before)) ∙ c .before .if1 .left
 
 small : (c : tie.After-slot-of) → c .slot-of .result < slots
-small c = let s = of-slot c in set-small (host s) (s .args .identifier) (passes c) (slot-is c)
+small c = let s = of-slot c in set-small (host s) (s .args .process) (s .args .identifier) (passes c) (slot-is c)
 
-check-set-requires : tie.Need-check-set-requires
-check-set-requires c κs = search needs
+check-access-requires : tie.Need-check-access-requires
+check-access-requires c κs = held-seated (host c) (c .pre)
 
 refused-requires : tie.Need-refused-requires
 refused-requires c κs = search needs
@@ -39,7 +40,7 @@ returns : tie.Need-returns
 returns c =
     let d = c .before .before in
     let s = d .before in
-    c .refused .ensures ∙ set-refused (host s) (s .args .identifier) (code-is d) (c .before .if1 .taken)
+    c .refused .ensures ∙ set-refused (host s) (s .args .process) (s .args .identifier) (code-is d) (c .before .if1 .taken)
 
 slot-of-requires : tie.Need-slot-of-requires
 slot-of-requires c κs = search needs
@@ -67,13 +68,13 @@ returns-2 c =
     let w = c .before .before .before .before .before .before in
     let o = w .before .before in
     let s = of-slot o in
-    set-shown (host s) (s .args .identifier) (s .pre) (passes o) (slot-is o) (w .before .set-at .ensures) (w .waiting .ensures) (c .before .before .before .values-of .ensures) (c .before .before .lasts-of .ensures) (c .before .ones-of .ensures) (c .ones-of2 .ensures)
+    set-shown (host s) (s .args .process) (s .args .identifier) (s .pre) (passes o) (slot-is o) (w .before .set-at .ensures) (w .waiting .ensures) (c .before .before .before .values-of .ensures) (c .before .before .lasts-of .ensures) (c .before .ones-of .ensures) (c .ones-of2 .ensures)
 
 pub query-set-spec : {M : Type 1} → statement M
 query-set-spec =
     tie.close
     (tie.spec
-    check-set-requires
+    check-access-requires
     refused-requires
     returns
     slot-of-requires

@@ -6,7 +6,7 @@ use Rattle.model.specs.declared.Set.{Set}
 use Rattle.model.specs.Checks.{checkCreate}
 use Rattle.model.specs.Events.{doCreate}
 use Rattle.host.specs.Holding.{Host, hostIn, stateIn}
-use Rattle.service.proofs.EventLaws.{refused-after}
+use Rattle.service.proofs.EventLaws.{held-seated, refused-after}
 use Rattle.service.proofs.SlotLaws.{create-slot, created}
 use borrow.Author.Needs.{needs}
 use Rattle.service.proofs.events.create.create.Statement.{statement}
@@ -16,17 +16,17 @@ use Rattle.service.proofs.events.create.create.Tie as tie
 abbrev x : tie.Start → Host
 x s = hostIn (s .args .host .now) (s .args .adjustments .now)
 
-none : (c : tie.Else1) → let s = c .before .before .before .before .before in checkCreate (stateIn (x s)) (s .args .count) ≡ 0
+none : (c : tie.Else1) → let s = c .before .before .before .before .before in checkCreate (stateIn (x s)) (s .args .process) (s .args .count) (s .args .mode) ≡ 0
 none c = sym (c .before .check-create .ensures (c .before .before .before .before .before .args .adjustments .now)) ∙ c .if1 .left
 
 slot-is : (c : tie.After-free-slot) → c .free-slot .result < 4
-slot-is c = let s = c .before .before .before .before .before .before .before in rw (c .free-slot .ensures) (create-slot (x s) (s .pre) (s .args .count) (s .args .read) (s .args .alter) (none (c .before .before)))
+slot-is c = let s = c .before .before .before .before .before .before .before in rw (c .free-slot .ensures) (create-slot (x s) (s .pre) (s .args .process) (s .args .count) (s .args .mode) (none (c .before .before)))
 
 clear-requires : tie.Need-clear-requires
 clear-requires c κs = search needs
 
 check-create-requires : tie.Need-check-create-requires
-check-create-requires c κs = search needs
+check-create-requires c κs = let s = c .before .before .before in held-seated (x s) (s .pre)
 
 quiet-requires : tie.Need-quiet-requires
 quiet-requires c κs = search needs
@@ -41,14 +41,30 @@ free-slot-requires c κs = search needs
 set-at-requires : tie.Need-set-at-requires
 set-at-requires c κs = search needs
 
+caller-of-requires : tie.Need-caller-of-requires
+caller-of-requires c κs = search needs
+
 put-set-requires : tie.Need-put-set-requires
 put-set-requires c κs = search needs
 
+-- where the slot was found, from where the set was put
+abbrev of-put : tie.After-put-set → tie.After-caller-of
+of-put c = c .before .before
+
+abbrev of-caller : tie.After-caller-of → tie.After-set-at
+of-caller c = c .before .before
+
+abbrev found : tie.After-put-set → tie.After-free-slot
+found c = of-caller (of-put c) .before .before
+
+abbrev put : tie.After-clear-slot → tie.After-put-set
+put c = c .before .before .before
+
 clear-slot-requires : tie.Need-clear-slot-requires
-clear-slot-requires c κs = slot-is (c .before .before .before .before .before .before)
+clear-slot-requires c κs = slot-is (found (c .before .before))
 
 cast-quiet : tie.Need-cast-quiet
-cast-quiet c = omega (arith, slot-is (c .before .before .before .before .before .before .before))
+cast-quiet c = omega (arith, slot-is (found (put c)))
 
 cast-quiet-2 : tie.Need-cast-quiet-2
 cast-quiet-2 c = search needs
@@ -60,17 +76,20 @@ mul-quiet : tie.Need-mul-quiet
 mul-quiet c = search needs
 
 add-quiet : tie.Need-add-quiet
-add-quiet c = let g : c .before .before .before .before .before .set-at .result .generation < 65536 = search needs in omega (arith, slot-is (c .before .before .before .before .before .before .before), g)
+add-quiet c = let g : of-caller (of-put (put c)) .set-at .result .generation < 65536 = search needs in omega (arith, slot-is (found (put c)), g)
 
 quiet-requires-2 : tie.Need-quiet-requires-2
 quiet-requires-2 c κs = search needs
 
 returns-2 : tie.Need-returns-2
 returns-2 c =
-    let s = c .before .before .before .before .before .before .before .before .before .before .before .before .before .before .before in
-    let old = c .before .before .before .before .before .before .set-at .ensures in
-    created (x s) (s .pre) _ _ _ (none (c .before .before .before .before .before .before .before .before .before .before)) (c .before .before .before .before .before .before .before .before .free-slot .ensures) (ap (λ (u : Set). u .generation) old) (c .before .before .before .before .put-set .ensures) (c .before .clear-slot .ensures)
-    (c .before .before .before .before .before .before .before .before .before .before .before .before .before .clear .ensures) refl (c .quiet2 .ensures)
+    let p = put (c .before) in
+    let k = of-put p in
+    let f = found p in
+    let e = f .before .before in
+    let s = e .before .before .before .before .before in
+    created (x s) (s .pre) _ _ _ (none e) (f .free-slot .ensures) (ap (λ (u : Set). u .generation) (of-caller k .set-at .ensures)) (k .caller-of .ensures) (p .put-set .ensures) (c .before .clear-slot .ensures)
+    (e .before .before .before .clear .ensures) refl (c .quiet2 .ensures)
 
 pub create-spec : {M : Type 1} → statement M
 create-spec =
@@ -82,6 +101,7 @@ create-spec =
     returns
     free-slot-requires
     set-at-requires
+    caller-of-requires
     put-set-requires
     clear-slot-requires
     cast-quiet

@@ -3,12 +3,12 @@ use Prim.Native.Nat.{_+_, _%_}
 use mathlib.Core.Path.{_≡_, sym, ap, _∙_}
 use mir.Facts.{toZ-ofZ}
 use Rattle.model.specs.declared.Set.{Set}
-use Rattle.model.specs.Checks.{slotOf, checkSet}
+use Rattle.model.specs.Checks.{slotOf, checkRemove}
 use Rattle.model.specs.Events.{doRemove}
 use Rattle.host.specs.Parts.{rowIn}
 use Rattle.host.specs.Holding.{Host, hostIn, stateIn, setAt}
 use Rattle.service_checks.proofs.FoundSets.{slot-within}
-use Rattle.service.proofs.EventLaws.{refused-after}
+use Rattle.service.proofs.EventLaws.{held-seated, refused-after}
 use Rattle.service.proofs.SlotLaws.{removed-row, removed}
 use borrow.Author.Needs.{needs}
 use Rattle.service.proofs.events.remove.remove.Statement.{statement}
@@ -19,10 +19,10 @@ abbrev x : tie.Start → Host
 x s = hostIn (s .args .host .now) (s .args .adjustments .now)
 
 -- the code of the checks, and what they leave
-code : (c : tie.After-check-set) → let s = c .before .before .before .before in c .check-set .result ≡ checkSet (stateIn (x s)) (s .args .identifier)
-code c = let s = c .before .before .before .before in rw (toZ-ofZ (s .fits .identifier)) at (c .check-set .ensures (s .args .adjustments .now))
+code : (c : tie.After-check-remove) → let s = c .before .before .before .before in c .check-remove .result ≡ checkRemove (stateIn (x s)) (s .args .process) (s .args .identifier)
+code c = let s = c .before .before .before .before in rw (toZ-ofZ (s .fits .identifier)) at (c .check-remove .ensures (s .args .adjustments .now))
 
-none : (c : tie.Else1) → let s = c .before .before .before .before .before in checkSet (stateIn (x s)) (s .args .identifier) ≡ 0
+none : (c : tie.Else1) → let s = c .before .before .before .before .before in checkRemove (stateIn (x s)) (s .args .process) (s .args .identifier) ≡ 0
 none c = sym (code (c .before)) ∙ c .if1 .left
 
 slot : (c : tie.After-slot-of) → c .slot-of .result ≡ slotOf (c .before .before .before .before .before .before .args .identifier)
@@ -34,8 +34,8 @@ generation c = c .wrapping-add-u16 .ensures ∙ ap (λ (u : Set). (u .generation
 clear-requires : tie.Need-clear-requires
 clear-requires c κs = search needs
 
-check-set-requires : tie.Need-check-set-requires
-check-set-requires c κs = search needs
+check-remove-requires : tie.Need-check-remove-requires
+check-remove-requires c κs = let s = c .before .before .before in held-seated (x s) (s .pre)
 
 quiet-requires : tie.Need-quiet-requires
 quiet-requires c κs = search needs
@@ -62,7 +62,7 @@ clear-slot-requires c κs = rw (slot (c .before .before .before .before .before 
 end-all-requires : tie.Need-end-all-requires
 end-all-requires c κs =
     let s = c .before .before .before .before .before .before .before .before .before .before .before .before .before .before .before .before in
-    (removed-row (x s) (s .pre) _ (none (c .before .before .before .before .before .before .before .before .before .before .before)) (slot (c .before .before .before .before .before .before .before .before .before .before)) (generation (c .before .before .before .before .before .before .before)) (c .before .before .before .before .before .put-set .ensures) (c .before .before .clear-slot .ensures), c .before .before .before .before .before .before .before .before .before .before .before .before .before .before .clear .ensures)
+    (removed-row (x s) (s .pre) _ _ (none (c .before .before .before .before .before .before .before .before .before .before .before)) (slot (c .before .before .before .before .before .before .before .before .before .before)) (generation (c .before .before .before .before .before .before .before)) (c .before .before .before .before .before .put-set .ensures) (c .before .before .clear-slot .ensures), c .before .before .before .before .before .before .before .before .before .before .before .before .before .before .clear .ensures)
 
 told-requires : tie.Need-told-requires
 told-requires c κs = search needs
@@ -71,7 +71,7 @@ returns-2 : tie.Need-returns-2
 returns-2 c =
     let s = c .before .before .before .before .before .before .before .before .before .before .before .before .before .before .before .before .before .before in
     let gone = c .before .end-all .ensures in
-    removed (x s) (s .pre) _ (none (c .before .before .before .before .before .before .before .before .before .before .before .before .before)) (slot (c .before .before .before .before .before .before .before .before .before .before .before .before)) (generation (c .before .before .before .before .before .before .before .before .before)) (c .before .before .before .before .before .before .before .put-set .ensures) (c .before .before .before .before .clear-slot .ensures)
+    removed (x s) (s .pre) _ _ (none (c .before .before .before .before .before .before .before .before .before .before .before .before .before)) (slot (c .before .before .before .before .before .before .before .before .before .before .before .before)) (generation (c .before .before .before .before .before .before .before .before .before)) (c .before .before .before .before .before .before .before .put-set .ensures) (c .before .before .before .before .clear-slot .ensures)
     (gone .0) (gone .1 .0) (gone .1 .1) (c .told .ensures)
 
 pub remove-spec : {M : Type 1} → statement M
@@ -79,7 +79,7 @@ remove-spec =
     tie.close
     (tie.spec
     clear-requires
-    check-set-requires
+    check-remove-requires
     quiet-requires
     returns
     slot-of-requires

@@ -13,7 +13,7 @@ use Rattle.host.specs.Holding.{Host, setsIn, queueIn, hostIn, stateIn}
 use Rattle.wakings.specs.Wakings.{placesIn}
 use Rattle.service_checks.proofs.FoundSets.{slot-within, set-found}
 use Rattle.service_waking.specs.Lent.{unwoken, treated}
-use Rattle.service.proofs.EventLaws.{refused-after, begun, begun-ready}
+use Rattle.service.proofs.EventLaws.{held-seated, refused-after, begun, begun-ready}
 use Rattle.service.proofs.events.set_all.set_all.Proof.Laws.{setTable, all-few, all-lent, all-ready, all-after}
 use borrow.Author.Needs.{needs}
 use Rattle.service.proofs.events.set_all.set_all.Statement.{statement}
@@ -38,10 +38,10 @@ abbrev of-nobody : tie.After-nobody → tie.After-every-number
 of-nobody c = c .before .before .before .before
 
 -- the code of the checks, and what they leave
-code : (c : tie.After-check-set-all) → let s = of-check c in c .check-set-all .result ≡ checkSetAll (stateIn (x s)) (s .args .identifier) (s .args .values .now)
+code : (c : tie.After-check-set-all) → let s = of-check c in c .check-set-all .result ≡ checkSetAll (stateIn (x s)) (s .args .process) (s .args .identifier) (s .args .values .now)
 code c = let s = of-check c in rw (toZ-ofZ (s .fits .identifier)) at (c .check-set-all .ensures (s .args .adjustments .now))
 
-none : (c : tie.Else1) → let s = of-check (c .before) in checkSetAll (stateIn (x s)) (s .args .identifier) (s .args .values .now) ≡ 0
+none : (c : tie.Else1) → let s = of-check (c .before) in checkSetAll (stateIn (x s)) (s .args .process) (s .args .identifier) (s .args .values .now) ≡ 0
 none c = sym (code (c .before)) ∙ c .if1 .left
 
 slot : (c : tie.After-slot-of) → c .slot-of .result ≡ slotOf (of-slot c .args .identifier)
@@ -59,18 +59,18 @@ of-values c = c .before
 
 lent : (c : tie.After-every-number) → let v = of-values c in let b = of-set v .before .before in let s = of-slot b in
     record { host = hostIn (v .assign-all .last .0) (v .assign-all .last .1 .0); wakings = placesIn (b .before .before .before .before .clear .last .0); woken = 0 }
-    ≡ unwoken (x s) (setTable (x s) (s .pre) (s .args .identifier) (s .args .values .now) (none (b .before))) (queueIn (x s .row))
+    ≡ unwoken (x s) (setTable (x s) (s .pre) (s .args .process) (s .args .identifier) (s .args .values .now) (none (b .before))) (queueIn (x s .row))
 lent c =
     let v = of-values c in
     let b = of-set v .before .before in
     let s = of-slot b in
-    all-lent (x s) (s .pre) _ (s .args .values .now) (none (b .before)) (slot b) (v .assign-all .ensures) (b .before .before .before .before .clear .ensures)
+    all-lent (x s) (s .pre) _ _ (s .args .values .now) (none (b .before)) (slot b) (v .assign-all .ensures) (b .before .before .before .before .clear .ensures)
 
 clear-requires : tie.Need-clear-requires
 clear-requires c κs = search needs
 
 check-set-all-requires : tie.Need-check-set-all-requires
-check-set-all-requires c κs = search needs
+check-set-all-requires c κs = let s = c .before .before .before .before in held-seated (x s) (s .pre)
 
 quiet-requires : tie.Need-quiet-requires
 quiet-requires c κs = search needs
@@ -89,7 +89,7 @@ assign-all-requires : tie.Need-assign-all-requires
 assign-all-requires c κs = slot-is (c .before .before .before .before)
 
 every-number-requires : tie.Need-every-number-requires
-every-number-requires c κs = let a = of-set c in let b = a .before .before in let s = of-slot b in all-few (x s) (s .pre) _ (s .args .values .now) (none (b .before)) (set-is a)
+every-number-requires c κs = let a = of-set c in let b = a .before .before in let s = of-slot b in all-few (x s) (s .pre) _ _ (s .args .values .now) (none (b .before)) (set-is a)
 
 nobody-requires : tie.Need-nobody-requires
 nobody-requires c κs = search needs
@@ -99,7 +99,7 @@ wake-requires c κs =
     let e = of-nobody c in
     let b = of-set (of-values e) .before .before in
     let s = of-slot b in
-    (slot-is b, (begun-ready (c .nobody .ensures) (lent e) (all-ready (x s) (s .pre) _ (s .args .values .now) (none (b .before))), omega (arith, c .nobody .ensures .0)))
+    (slot-is b, (begun-ready (c .nobody .ensures) (lent e) (all-ready (x s) (s .pre) _ _ (s .args .values .now) (none (b .before))), omega (arith, c .nobody .ensures .0)))
 
 told-requires : tie.Need-told-requires
 told-requires c κs = search needs
@@ -111,7 +111,7 @@ returns-2 c =
     let a = of-set (of-values e) in
     let b = a .before .before in
     let s = of-slot b in
-    all-after (x s) (s .pre) _ (s .args .values .now) (none (b .before)) _ (slot b) (set-is a) (e .every-number .ensures) (begun (n .nobody .ensures) (lent e) (treated _ _ _) (c .before .wake .ensures)) (c .told .ensures)
+    all-after (x s) (s .pre) _ _ (s .args .values .now) (none (b .before)) _ (slot b) (set-is a) (e .every-number .ensures) (begun (n .nobody .ensures) (lent e) (treated _ _ _) (c .before .wake .ensures)) (c .told .ensures)
 
 pub set-all-spec : {M : Type 1} → statement M
 set-all-spec =

@@ -13,7 +13,7 @@ use Rattle.judging.specs.Value.{valueOf}
 use Rattle.service_checks.proofs.FoundSets.{slot-within}
 use Rattle.service_waking.specs.Lent.{treated}
 use Rattle.service_waking.proofs.ByProcess.{shifted}
-use Rattle.service.proofs.EventLaws.{refused-after, begun, begun-ready}
+use Rattle.service.proofs.EventLaws.{held-seated, refused-after, begun, begun-ready}
 use Rattle.service.proofs.events.set_value.set_value.Proof.Laws.{value-kept, set-number, set-lent, set-ready, set-after}
 use borrow.Author.Needs.{needs}
 use Rattle.service.proofs.events.set_value.set_value.Statement.{statement}
@@ -24,10 +24,10 @@ abbrev x : tie.Start → Host
 x s = hostIn (s .args .host .now) (s .args .adjustments .now)
 
 -- the code of the checks, and what they leave
-code : (c : tie.After-check-set-value) → let s = c .before .before .before .before in c .check-set-value .result ≡ checkSetValue (stateIn (x s)) (s .args .identifier) (s .args .number) (s .args .value)
+code : (c : tie.After-check-set-value) → let s = c .before .before .before .before in c .check-set-value .result ≡ checkSetValue (stateIn (x s)) (s .args .process) (s .args .identifier) (s .args .number) (s .args .value)
 code c = let s = c .before .before .before .before in rw (toZ-ofZ (s .fits .identifier), toZ-ofZ (s .fits .value)) at (c .check-set-value .ensures (s .args .adjustments .now))
 
-none : (c : tie.Else1) → let s = c .before .before .before .before .before in checkSetValue (stateIn (x s)) (s .args .identifier) (s .args .number) (s .args .value) ≡ 0
+none : (c : tie.Else1) → let s = c .before .before .before .before .before in checkSetValue (stateIn (x s)) (s .args .process) (s .args .identifier) (s .args .number) (s .args .value) ≡ 0
 none c = sym (code (c .before)) ∙ c .if1 .left
 
 slot : (c : tie.After-slot-of) → c .slot-of .result ≡ slotOf (c .before .before .before .before .before .before .args .identifier)
@@ -37,16 +37,16 @@ slot-is : (c : tie.After-slot-of) → c .slot-of .result < 4
 slot-is c = rw (slot c) (slot-within (c .before .before .before .before .before .before .args .identifier))
 
 number-is : (c : tie.After-slot-of) → c .before .before .before .before .before .before .args .number < semaphores
-number-is c = let s = c .before .before .before .before .before .before in set-number (x s) (s .pre) _ _ _ (none (c .before))
+number-is c = let s = c .before .before .before .before .before .before in set-number (x s) (s .pre) _ _ _ _ (none (c .before))
 
 value : (c : tie.After-value-of) → c .value-of .result ≡ natAbs (c .before .before .before .before .before .before .before .before .before .args .value)
-value c = let s = c .before .before .before .before .before .before .before .before .before in c .value-of .ensures ∙ ap valueOf (toZ-ofZ (s .fits .value)) ∙ value-kept (stateIn (x s)) _ _ _ (none (c .before .before .before .before))
+value c = let s = c .before .before .before .before .before .before .before .before .before in c .value-of .ensures ∙ ap valueOf (toZ-ofZ (s .fits .value)) ∙ value-kept (stateIn (x s)) _ _ _ _ (none (c .before .before .before .before))
 
 clear-requires : tie.Need-clear-requires
 clear-requires c κs = search needs
 
 check-set-value-requires : tie.Need-check-set-value-requires
-check-set-value-requires c κs = search needs
+check-set-value-requires c κs = let s = c .before .before .before in held-seated (x s) (s .pre)
 
 quiet-requires : tie.Need-quiet-requires
 quiet-requires c κs = search needs
@@ -77,8 +77,8 @@ wake-requires : tie.Need-wake-requires
 wake-requires c κs =
     let s = c .before .before .before .before .before .before .before .before .before .before .before .before .before .before in
     let z = none (c .before .before .before .before .before .before .before .before .before) in
-    let lent = set-lent (x s) (s .pre) _ _ _ z (rw (slot (c .before .before .before .before .before .before .before .before), value (c .before .before .before .before .before)) at (c .before .before .before .before .assign .ensures)) (c .before .before .before .before .before .before .before .before .before .before .before .before .clear .ensures) in
-    (slot-is (c .before .before .before .before .before .before .before .before), (begun-ready (c .nobody .ensures) lent (set-ready (x s) (s .pre) _ _ _ z), omega (arith, c .nobody .ensures .0)))
+    let lent = set-lent (x s) (s .pre) _ _ _ _ z (rw (slot (c .before .before .before .before .before .before .before .before), value (c .before .before .before .before .before)) at (c .before .before .before .before .assign .ensures)) (c .before .before .before .before .before .before .before .before .before .before .before .before .clear .ensures) in
+    (slot-is (c .before .before .before .before .before .before .before .before), (begun-ready (c .nobody .ensures) lent (set-ready (x s) (s .pre) _ _ _ _ z), omega (arith, c .nobody .ensures .0)))
 
 told-requires : tie.Need-told-requires
 told-requires c κs = search needs
@@ -87,8 +87,8 @@ returns-2 : tie.Need-returns-2
 returns-2 c =
     let s = c .before .before .before .before .before .before .before .before .before .before .before .before .before .before .before .before in
     let z = none (c .before .before .before .before .before .before .before .before .before .before .before) in
-    let lent = set-lent (x s) (s .pre) _ _ _ z (rw (slot (c .before .before .before .before .before .before .before .before .before .before), value (c .before .before .before .before .before .before .before)) at (c .before .before .before .before .before .before .assign .ensures)) (c .before .before .before .before .before .before .before .before .before .before .before .before .before .before .clear .ensures) in
-    set-after (x s) (s .pre) _ _ _ z _ (slot (c .before .before .before .before .before .before .before .before .before .before)) (shifted _ (number-is (c .before .before .before .before .before .before .before .before .before .before)))
+    let lent = set-lent (x s) (s .pre) _ _ _ _ z (rw (slot (c .before .before .before .before .before .before .before .before .before .before), value (c .before .before .before .before .before .before .before)) at (c .before .before .before .before .before .before .assign .ensures)) (c .before .before .before .before .before .before .before .before .before .before .before .before .before .before .clear .ensures) in
+    set-after (x s) (s .pre) _ _ _ _ z _ (slot (c .before .before .before .before .before .before .before .before .before .before)) (shifted _ (number-is (c .before .before .before .before .before .before .before .before .before .before)))
     (begun (c .before .before .nobody .ensures) lent (treated _ _ _) (c .before .wake .ensures)) (c .told .ensures)
 
 pub set-value-spec : {M : Type 1} → statement M

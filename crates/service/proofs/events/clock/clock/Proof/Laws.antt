@@ -11,9 +11,9 @@ use Rattle.model.specs.Clock.{due, notDue}
 use Rattle.model.specs.Checks.{checkClock}
 use Rattle.model.specs.Events.{keep, endedWith, doClock}
 use Rattle.host.specs.Parts.{clock, Row, with, put}
-use Rattle.host.specs.Holding.{Host, withQueue, withTime, hostOf, arrayIn, setsIn, timeIn, queueIn, tableIn, stateIn, Held}
+use Rattle.host.specs.Holding.{Host, withQueue, withTime, hostOf, arrayIn, setsIn, callersIn, timeIn, queueIn, tableIn, stateIn, Held}
 use Rattle.host.specs.Queue.{Queued, QueueHeld}
-use Rattle.host.proofs.PartLaws.{setParts, queueParts, by-groups}
+use Rattle.host.proofs.PartLaws.{setParts, callerParts, queueParts, by-groups}
 use Rattle.wakings.specs.Wakings.{Place, listOf}
 use Rattle.service.specs.After.{telling, afterOf}
 use Rattle.service.proofs.EventLaws.{held-row, held-queued, goes-on}
@@ -28,10 +28,10 @@ module _ (x : Host) (k : Held x) (time : ℕ) (z : checkClock (stateIn x) time �
 
   -- the state with another queue, at this time
   abbrev at : List Sleeper → State
-  at q = record { sets = setsIn (x .row); table = tableIn x; queue = q; time = time }
+  at q = record { sets = setsIn (x .row); callers = callersIn (x .row); table = tableIn x; queue = q; time = time }
 
   host-at : (q : List Sleeper) → record { row = withQueue timed q; adjustments = x .adjustments } ≡ hostOf (at q)
-  host-at q = ap (λ (r : Row). record { row = r; adjustments = x .adjustments }) (by-groups _ _ (ap (λ (y : Host). setParts (y .row)) (k .holds)) refl refl refl)
+  host-at q = ap (λ (r : Row). record { row = r; adjustments = x .adjustments }) (by-groups _ _ (ap (λ (y : Host). setParts (y .row)) (k .holds)) (ap (λ (y : Host). callerParts (y .row)) (k .holds)) refl refl refl)
 
   module _ {r : Row} (er : r ≡ put (x .row) clock 0 time) where
     there : r ≡ timed
@@ -43,7 +43,7 @@ module _ (x : Host) (k : Held x) (time : ℕ) (z : checkClock (stateIn x) time �
     pub timed-row : QueueHeld r
     timed-row =
         record {
-          holds = there ∙ by-groups _ _ refl refl refl (ap queueParts (held-row x k .holds)) ∙ ap₂ withQueue (sym there) (sym queue-there);
+          holds = there ∙ by-groups _ _ refl refl refl refl (ap queueParts (held-row x k .holds)) ∙ ap₂ withQueue (sym there) (sym queue-there);
           fits = subst Queued (sym queue-there) (held-queued x k);
         }
 

@@ -27,9 +27,9 @@ use Rattle.service_waking.specs.Lent.{Left, unwoken, Ready, treated}
 use Rattle.service.specs.After.{telling, afterOf}
 use Rattle.service.proofs.EventLaws.{held-invariant, held-counts, poised-lent, poised-ready, after-treated, goes-on}
 
-module _ (x : Host) (k : Held x) (i : ℤ) (bytes : List ℕ) (z : checkSetAll (stateIn x) i bytes ≡ 0) where
-  passed : AllAssignable (stateIn x) i bytes
-  passed = setAll-passes (stateIn x) i bytes z
+module _ (x : Host) (k : Held x) (p : ℕ) (i : ℤ) (bytes : List ℕ) (z : checkSetAll (stateIn x) p i bytes ≡ 0) where
+  passed : AllAssignable (stateIn x) p i bytes
+  passed = setAll-passes (stateIn x) p i bytes z
 
   -- the table with the values that passed the checks
   abbrev pub setTable : Table
@@ -53,7 +53,7 @@ module _ (x : Host) (k : Held x) (i : ℤ) (bytes : List ℕ) (z : checkSetAll (
 
   pub all-after : (engine : Engine) {slot touched : ℕ} {set : Set} {y : Left} {told : Told} → slot ≡ slotOf i → set ≡ getD (setsIn (x .row)) (slotOf i) noSet → touched ≡ everyNumber (set .count)
       → y ≡ treated engine slot touched (unwoken x setTable (queueIn (x .row))) 0 → told ≡ telling (pos 0) 0 (y .looks) (y .lent .woken)
-      → record { host = y .lent .host; wakings = y .lent .wakings; told = told } ≡ afterOf (doSetAll (waker engine) (stateIn x) i bytes)
+      → record { host = y .lent .host; wakings = y .lent .wakings; told = told } ≡ afterOf (doSetAll (waker engine) (stateIn x) p i bytes)
   unfolding doSetAll
   all-after engine es et em ey etold =
       after-treated x k setTable (queueIn (x .row)) good (held-invariant x k .fits) (held-invariant x k .distinct) engine (slotOf i) (everyNumber (countAt (setsIn (x .row)) (slotOf i)))
