@@ -168,10 +168,13 @@ impl fmt::Display for Check {
 #[cfg(test)]
 mod tests {
     use super::*;
+    use crate::counts::count_each;
     use crate::line::followed;
+    use crate::random::Rng;
     use crate::rights::mistakes;
+    use crate::traffic::kind_named;
     use second::event::{act_as, create, operate, query, remove, set_value, Body};
-    use second::run_file;
+    use second::{run_file, FILE_MAX};
 
     /// What the calls of a run show.
     fn shown(bodies: &[Body]) -> Vec<Vec<Pair>> {
@@ -231,10 +234,29 @@ mod tests {
         assert_eq!((decided("0 3 0 0 0 0"), decided("0 22 0 0 0 0")), (2, 0));
     }
 
+    /// The second program reads the checks in the same way: where none refuses, judging is left.
+    #[test]
+    fn as_the_second_program_has_them() {
+        for kind in ["mixed", "refusals", "random", "modes", "generations"] {
+            let file = kind_named(kind).expect("a kind").make(Rng::new(3, 0), FILE_MAX);
+            let mut world = World::default();
+            followed(&file, |event, line| {
+                if let Some(call) = Call::of(event) {
+                    let (code, refusing) = (line.code.number, refusing(&world, call));
+                    let expected = refusing.first().map_or(code, |(_, code)| *code);
+                    assert_eq!(code, expected, "{kind}: {event:?}");
+                    let judged = line.code.position.is_some() || code == 0;
+                    assert_eq!(judged, refusing.is_empty(), "{kind}: {event:?}");
+                }
+                world.follow(event, line);
+            });
+        }
+    }
+
     #[test]
     fn one_file_has_all_of_them() {
         let mut counts = Counts::new();
-        crate::counts::count_each(&mut counts, shown(&mistakes()).concat());
+        count_each(&mut counts, shown(&mistakes()).concat());
         assert_eq!(missing(&counts), [""; 0]);
     }
 }

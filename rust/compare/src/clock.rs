@@ -4,6 +4,7 @@ use second::event::{self, Body, Operation};
 use second::{NOWAIT, TIME_MAX};
 
 use crate::choice::{self, narrow, two_numbers, MAX};
+use crate::refusal;
 use crate::scene::Scene;
 use crate::script::fill;
 use crate::times;
@@ -114,7 +115,7 @@ fn at_once(scene: &mut Scene) {
         scene.add(choice::remove);
     }
     let choose: fn(&mut Scene) -> Body =
-        scene.rng.pick(&[choice::operate, choice::sleepy, choice::refusal]);
+        scene.rng.pick(&[choice::operate, choice::sleepy, refusal::refusal]);
     let body = choose(scene);
     scene.push(with_wait(body, 0));
     scene.add(choice::ask);

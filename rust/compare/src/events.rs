@@ -157,6 +157,14 @@ pub fn unknown() -> Vec<u8> {
     (0..=u8::MAX).filter(|number| EVENTS.iter().all(|kind| kind.number != *number)).collect()
 }
 
+/// The same event by another process; a time is nobody's.
+pub fn by(process: u8, mut body: Body) -> Body {
+    if body[0] != 9 {
+        body[1] = process;
+    }
+    body
+}
+
 /// The body without the process behind its kind.
 pub fn callerless(mut body: Body) -> Body {
     body.remove(1);

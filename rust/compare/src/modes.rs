@@ -6,10 +6,11 @@ use second::{Credentials, NOWAIT, UNDO};
 
 use crate::choice::{self, narrow, MAX};
 use crate::class::Class;
+use crate::events::by;
 use crate::random::Rng;
 use crate::scene::{Scene, Target};
 use crate::script::fill;
-use crate::{times, users};
+use crate::{refusal, times, users};
 
 pub fn modes(scene: &mut Scene) {
     scene.rouse(3);
@@ -79,14 +80,14 @@ fn mistaken(scene: &mut Scene) {
     let somebody = users::beside(&mut scene.rng, target.owner, target.group);
     becomes(scene, caller, somebody);
     for _ in 0..scene.rng.between(2, 8) {
-        let none = choice::nobody(&mut scene.rng);
+        let none = refusal::nobody(&mut scene.rng);
         let asleep = scene.asleep().pop().unwrap_or(none);
         let body = match scene.rng.below(3) {
             0 => question(&mut scene.rng, caller, &target),
-            _ => choice::refusal(scene),
+            _ => refusal::refusal(scene),
         };
         let process = scene.rng.pick(&[caller, caller, asleep, none]);
-        scene.push(choice::by(process, body));
+        scene.push(by(process, body));
     }
 }
 
@@ -116,7 +117,7 @@ fn woken(scene: &mut Scene) {
     let wakes = match scene.rng.below(3) {
         _ if holds => event::exit(waker),
         0 => event::set_value(waker, id, number, value),
-        1 => choice::by(waker, scene.setting(id, number, value)),
+        1 => by(waker, scene.setting(id, number, value)),
         _ => event::operate(waker, id, &[(number, amount, 0)]),
     };
     scene.push(wakes);
@@ -152,7 +153,7 @@ fn crowded(scene: &mut Scene) {
     fill(scene, asleep);
     scene.add(choice::act_as);
     if let [first, ..] = scene.asleep()[..] {
-        scene.add(|scene| choice::by(first, choice::act_as(scene)));
+        scene.add(|scene| by(first, choice::act_as(scene)));
     }
     scene.add(choice::stir);
 }

@@ -164,7 +164,7 @@ impl Scene {
         set.map_or(Vec::new(), |target| target.values)
     }
 
-    pub fn acts_as(&self, process: u8) -> Credentials {
+    fn acts_as(&self, process: u8) -> Credentials {
         self.host.credentials()[usize::from(process) - 1]
     }
 

@@ -5,10 +5,11 @@ use second::{event, NOWAIT, UNDO};
 
 use crate::choice::{self, narrow, two_numbers, MAX};
 use crate::scene::{wakes_with, wakings, Scene, OPEN};
+use crate::{everyday, refusal};
 
 /// Everyday traffic.
 pub fn mixed(scene: &mut Scene) {
-    scene.add(choice::any);
+    scene.add(everyday::any);
 }
 
 /// Bodies of good form, not steered at all.
@@ -210,7 +211,7 @@ pub fn generations(scene: &mut Scene) {
     if scene.rng.once_in(3) {
         scene.push(event::exit(caller));
     }
-    let stale = choice::stale(scene);
+    let stale = refusal::stale(scene);
     scene.push(event::create(scene.someone(), 8, OPEN));
     scene.push(event::operate(caller, id, &[(number, 1, 0)]));
     scene.push(event::set_all(scene.someone(), id, &target.values));
@@ -257,7 +258,7 @@ pub fn refusals(scene: &mut Scene) {
         scene.add(choice::create);
         scene.add(choice::act_as);
     }
-    scene.add(choice::refusal);
+    scene.add(refusal::refusal);
 }
 
 /// Every semaphore of every set is asked for, each alone and all at once, with sleepers at them.

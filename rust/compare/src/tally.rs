@@ -229,7 +229,7 @@ impl Tally {
         for (index, EventKind { name, codes, wakings, .. }) in EVENTS.iter().enumerate() {
             let codes = lacking(&self.codes, index, codes.iter().copied());
             missing.extend(codes.map(|code| format!("{name} with code {code}")));
-            // Those are looked at that can be done.
+            // Where a waking can be 0, sleepers are looked at.
             if wakings.contains(&0) && !self.most_looks.contains_key(&index) {
                 missing.push(format!("{LOOKS} looks by {name}"));
             }

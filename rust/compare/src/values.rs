@@ -4,6 +4,7 @@ use second::event::{self, Operation};
 use second::UNDO;
 
 use crate::choice::{self, narrow};
+use crate::refusal;
 use crate::scene::{wakes_with, Scene};
 use crate::script::fill;
 
@@ -70,7 +71,7 @@ fn cleared(scene: &mut Scene) {
         scene.push(event::operate(holder, id, &array));
     }
     let setting = match scene.rng.below(4) {
-        0 => choice::refused_setting(scene, &target),
+        0 => refusal::refused_setting(scene, &target),
         _ => event::set_all(scene.someone(), id, &choice::values(&mut scene.rng, &target)),
     };
     scene.push(setting);
@@ -85,6 +86,6 @@ fn refused(scene: &mut Scene) {
     let asleep = scene.rng.below(4);
     fill(scene, asleep);
     let target = scene.target();
-    scene.add(|scene| choice::refused_setting(scene, &target));
+    scene.add(|scene| refusal::refused_setting(scene, &target));
     scene.push(event::read_all(scene.someone(), target.identifier));
 }
