@@ -10,7 +10,7 @@ const KINDS: [&str; 10] = [
     "modes",
 ];
 /// Files of a seed, good and bad.
-const FILES: usize = 60;
+const FILES: usize = 100;
 
 /// A file as the comparer makes it.
 pub fn generated(arguments: &[&str]) -> Vec<u8> {
