@@ -31,8 +31,8 @@ enum {
     VAIROLENT_MODE_MAX = 511,      /* the nine bits of a mode, 0777 */
     VAIROLENT_ASLEEP = -1,         /* the code of a call that sleeps; its position names the operation that stopped */
     VAIROLENT_OPERATION_BYTES = 6, /* an operation: the bytes of a struct sembuf */
-    VAIROLENT_ROW_BYTES = 1925,    /* the bytes of a host's row */
-    VAIROLENT_POOL = 32            /* the undo entries of a host */
+    VAIROLENT_ROW_BYTES = 1917,    /* the bytes of a host's row */
+    VAIROLENT_ADJUSTMENTS = 256    /* the undo adjustments of a host */
 };
 
 /* The last time that can be told, in milliseconds. */
@@ -58,17 +58,13 @@ struct vairolent_waking {
 };
 
 /* All that the service holds: the sets, their sleepers, the processes' users and groups and the time last told in a row
- * of bytes, the undo adjustments in a pool of entries, and the wakings of the last event, with zeros behind them.
- *
- * An entry of the pool is ((process - 1) * 32 + slot * 8 + number) * 65536 + the adjustment as sixteen bits, where the
- * slot of a set is its identifier modulo 4. Adjustments other than 0 have one each, in ascending order; the free ones
- * behind them are 0.
+ * of bytes, the undo adjustments, and the wakings of the last event, with zeros behind them.
  *
  * The premise of every event: the host handed in is as vairolent_fresh or the last event left it, byte for byte;
  * nothing checks that when the program runs, and of any other host nothing is promised. A copy of a host is a host. */
 struct vairolent_host {
     uint8_t row[VAIROLENT_ROW_BYTES];
-    uint32_t pool[VAIROLENT_POOL];
+    int16_t adjustments[VAIROLENT_ADJUSTMENTS];
     struct vairolent_waking wakings[VAIROLENT_PROCESSES];
 };
 
@@ -118,7 +114,7 @@ struct vairolent_limits {
     size_t value_max;
     size_t mode_max;
     size_t row_bytes;
-    size_t pool;
+    size_t adjustments;
 };
 
 /* An operation as in <sys/sem.h>: number, amount, and the flags IPC_NOWAIT and SEM_UNDO; other flags are ignored. */
@@ -127,8 +123,8 @@ struct sembuf;
 /* The limits of the archive. They are this header's, unless the two are not of one build. */
 struct vairolent_limits vairolent_limits(void);
 
-/* A fresh host: four free slots, every number 0, every undo entry free, every process of user 0 and group 0, no
- * sleepers, and time 0. */
+/* A fresh host: four free slots, every number and adjustment 0, every process of user 0 and group 0, no sleepers, and
+ * time 0. */
 struct vairolent_host vairolent_fresh(void);
 
 /* The eleven events; read all is vairolent_query_set, and an operate has a wait or none. Each has a function of the
@@ -145,12 +141,6 @@ struct vairolent_host vairolent_fresh(void);
  * set all), and 1 is kept and permits nothing. A set is removed by its owner alone, whatever the mode. User 0 may do
  * everything; group 0 is a group as any other. So 0640 lets the owner read and alter, the group read, and others
  * neither. Permission is judged by the process's present numbers when a call begins, and not again at its waking.
- *
- * How undo entries are used: one is in use for a process and a semaphore while the process's adjustment there is not 0,
- * and while the process sleeps on an array that names the semaphore with SEM_UNDO and an amount other than 0. In a host
- * at most 32 are in use; an operate that would make more is refused. Its own such operations count, whether or not they
- * would go through, and those at one semaphore once. So where all are in use, an operate that would give one back and
- * take another is refused, and one without such operations never. What falls out of use can be used again at once.
  *
  * How sleepers are woken: those of the set whose arrays name a semaphore whose value changed or was set are judged
  * again, oldest first. One that no longer sleeps is woken, with 0 and its array applied (it is then the last process of
@@ -176,12 +166,12 @@ static inline size_t vairolent_byte_count(size_t count, size_t most, size_t each
  * generation goes up by one at each removal, from 65,535 round to 0: a very old identifier can match again.
  * Refused, the first that applies: ESRCH process not 1 to 8; EBUSY it is asleep; EINVAL count 0 or over 8, or mode over
  * 0777; ENOSPC no free slot. */
-struct vairolent_told vairolent_create_in(uint8_t *row, uint32_t *pool, struct vairolent_waking *wakings,
+struct vairolent_told vairolent_create_in(uint8_t *row, int16_t *adjustments, struct vairolent_waking *wakings,
                                           uint8_t process, uint8_t count, uint16_t mode);
 static inline struct vairolent_told vairolent_create(struct vairolent_host *host, uint8_t process, uint8_t count,
                                                      uint16_t mode)
 {
-    return vairolent_create_in(host->row, host->pool, host->wakings, process, count, mode);
+    return vairolent_create_in(host->row, host->adjustments, host->wakings, process, count, mode);
 }
 
 /* An array of operations of a process at a set, done as a whole or not at all, as semop does it. Each operation is
@@ -193,16 +183,15 @@ static inline struct vairolent_told vairolent_create(struct vairolent_host *host
  * woken. The archive's function takes the bytes of the operations, six for each, and whether there is a wait, and which.
  * Refused, the first that applies: ESRCH process not 1 to 8; EBUSY it is asleep; EINVAL no operations, or bytes not a
  * multiple of 6; E2BIG over 32 operations; EINVAL no such set; EFBIG a number at or above the set's count; EACCES one
- * of the operations is not permitted; ENOSPC over 32 undo entries would be in use; then as the deciding operation
- * has it, with its position: EAGAIN it stops and has IPC_NOWAIT; ERANGE it would take its value, or with SEM_UNDO the
- * adjustment, out of its range. */
-struct vairolent_told vairolent_operate_in(uint8_t *row, uint32_t *pool, struct vairolent_waking *wakings,
+ * of the operations is not permitted; then as the deciding operation has it, with its position: EAGAIN it stops and has
+ * IPC_NOWAIT; ERANGE it would take its value, or with SEM_UNDO the adjustment, out of its range. */
+struct vairolent_told vairolent_operate_in(uint8_t *row, int16_t *adjustments, struct vairolent_waking *wakings,
                                            uint8_t process, int32_t identifier, bool waits, uint32_t wait,
                                            const uint8_t *operations, size_t bytes);
 static inline struct vairolent_told vairolent_operate(struct vairolent_host *host, uint8_t process, int32_t identifier,
                                                       const struct sembuf *operations, size_t count)
 {
-    return vairolent_operate_in(host->row, host->pool, host->wakings, process, identifier, false, 0,
+    return vairolent_operate_in(host->row, host->adjustments, host->wakings, process, identifier, false, 0,
                                 vairolent_bytes(operations, count),
                                 vairolent_byte_count(count, VAIROLENT_OPERATIONS, VAIROLENT_OPERATION_BYTES));
 }
@@ -217,7 +206,7 @@ static inline struct vairolent_told vairolent_operate_within(struct vairolent_ho
                                                              int32_t identifier, const struct sembuf *operations,
                                                              size_t count, uint32_t wait)
 {
-    return vairolent_operate_in(host->row, host->pool, host->wakings, process, identifier, true, wait,
+    return vairolent_operate_in(host->row, host->adjustments, host->wakings, process, identifier, true, wait,
                                 vairolent_bytes(operations, count),
                                 vairolent_byte_count(count, VAIROLENT_OPERATIONS, VAIROLENT_OPERATION_BYTES));
 }
@@ -225,12 +214,12 @@ static inline struct vairolent_told vairolent_operate_within(struct vairolent_ho
 /* Sets the value of a semaphore, forgets all undo adjustments of it, and wakes sleepers, even if the value is the same.
  * Refused, the first that applies: ESRCH process not 1 to 8; EBUSY it is asleep; EINVAL no such set; EACCES altering is
  * not permitted; EINVAL a number at or above the set's count; ERANGE value not 0 to 32,767. */
-struct vairolent_told vairolent_set_value_in(uint8_t *row, uint32_t *pool, struct vairolent_waking *wakings,
+struct vairolent_told vairolent_set_value_in(uint8_t *row, int16_t *adjustments, struct vairolent_waking *wakings,
                                              uint8_t process, int32_t identifier, uint16_t number, int32_t value);
 static inline struct vairolent_told vairolent_set_value(struct vairolent_host *host, uint8_t process,
                                                         int32_t identifier, uint16_t number, int32_t value)
 {
-    return vairolent_set_value_in(host->row, host->pool, host->wakings, process, identifier, number, value);
+    return vairolent_set_value_in(host->row, host->adjustments, host->wakings, process, identifier, number, value);
 }
 
 /* Sets the values of all semaphores of a set at once, from semaphore 0 on, forgets all undo adjustments of the set, and
@@ -240,12 +229,12 @@ static inline struct vairolent_told vairolent_set_value(struct vairolent_host *h
  * Refused, the first that applies: ESRCH process not 1 to 8; EBUSY it is asleep; EINVAL no such set; EACCES altering is
  * not permitted; EINVAL the number of values is not the set's count, or bytes not a multiple of 4; ERANGE one of the
  * values not 0 to 32,767. */
-struct vairolent_told vairolent_set_all_in(uint8_t *row, uint32_t *pool, struct vairolent_waking *wakings,
+struct vairolent_told vairolent_set_all_in(uint8_t *row, int16_t *adjustments, struct vairolent_waking *wakings,
                                            uint8_t process, int32_t identifier, const uint8_t *values, size_t bytes);
 static inline struct vairolent_told vairolent_set_all(struct vairolent_host *host, uint8_t process, int32_t identifier,
                                                       const int32_t *values, size_t count)
 {
-    return vairolent_set_all_in(host->row, host->pool, host->wakings, process, identifier,
+    return vairolent_set_all_in(host->row, host->adjustments, host->wakings, process, identifier,
                                 vairolent_bytes(values, count),
                                 vairolent_byte_count(count, VAIROLENT_SEMAPHORES, sizeof *values));
 }
@@ -253,31 +242,31 @@ static inline struct vairolent_told vairolent_set_all(struct vairolent_host *hos
 /* Removes a set and frees its slot. Its sleepers are woken with EIDRM, oldest first.
  * Refused, the first that applies: ESRCH process not 1 to 8; EBUSY it is asleep; EINVAL no such set; EPERM the process
  * is neither of the set's owner nor of user 0. */
-struct vairolent_told vairolent_remove_in(uint8_t *row, uint32_t *pool, struct vairolent_waking *wakings,
+struct vairolent_told vairolent_remove_in(uint8_t *row, int16_t *adjustments, struct vairolent_waking *wakings,
                                           uint8_t process, int32_t identifier);
 static inline struct vairolent_told vairolent_remove(struct vairolent_host *host, uint8_t process, int32_t identifier)
 {
-    return vairolent_remove_in(host->row, host->pool, host->wakings, process, identifier);
+    return vairolent_remove_in(host->row, host->adjustments, host->wakings, process, identifier);
 }
 
 /* A signal for a process: if it sleeps it is woken with EINTR, if it is awake nothing changes.
  * Refused: ESRCH process not 1 to 8. */
-struct vairolent_told vairolent_signal_in(uint8_t *row, uint32_t *pool, struct vairolent_waking *wakings,
+struct vairolent_told vairolent_signal_in(uint8_t *row, int16_t *adjustments, struct vairolent_waking *wakings,
                                           uint8_t process);
 static inline struct vairolent_told vairolent_signal(struct vairolent_host *host, uint8_t process)
 {
-    return vairolent_signal_in(host->row, host->pool, host->wakings, process);
+    return vairolent_signal_in(host->row, host->adjustments, host->wakings, process);
 }
 
 /* The end of a process. If it sleeps it is taken out, without a waking. Each of its undo adjustments is added to its
  * semaphore, cut to 0 to 32,767, and set to zero; then sleepers are woken, set by set from slot 0 up. Its user and
  * group stay, for the next process by that number: act as tells others.
  * Refused: ESRCH process not 1 to 8. */
-struct vairolent_told vairolent_exit_in(uint8_t *row, uint32_t *pool, struct vairolent_waking *wakings,
+struct vairolent_told vairolent_exit_in(uint8_t *row, int16_t *adjustments, struct vairolent_waking *wakings,
                                         uint8_t process);
 static inline struct vairolent_told vairolent_exit(struct vairolent_host *host, uint8_t process)
 {
-    return vairolent_exit_in(host->row, host->pool, host->wakings, process);
+    return vairolent_exit_in(host->row, host->adjustments, host->wakings, process);
 }
 
 /* Tells the present time, in milliseconds since any moment that the program keeps to; 0 was told before the first. Each
@@ -286,33 +275,33 @@ static inline struct vairolent_told vairolent_exit(struct vairolent_host *host, 
  * two times that are told no wait ends, and who is past its own can still be woken with 0; so tell the time before the
  * events of a new moment, and when a wait runs out.
  * Refused: EINVAL a time below the last told, or above VAIROLENT_TIME_MAX; it is not told then. */
-struct vairolent_told vairolent_clock_in(uint8_t *row, uint32_t *pool, struct vairolent_waking *wakings,
+struct vairolent_told vairolent_clock_in(uint8_t *row, int16_t *adjustments, struct vairolent_waking *wakings,
                                          uint64_t time);
 static inline struct vairolent_told vairolent_clock(struct vairolent_host *host, uint64_t time)
 {
-    return vairolent_clock_in(host->row, host->pool, host->wakings, time);
+    return vairolent_clock_in(host->row, host->adjustments, host->wakings, time);
 }
 
 /* Tells the user and the group of a process, by which its calls are permitted from then on; no permission is asked for
  * it. The sets that it has made keep their owner and owning group.
  * Refused, the first that applies: ESRCH process not 1 to 8; EBUSY it is asleep. */
-struct vairolent_told vairolent_act_as_in(uint8_t *row, uint32_t *pool, struct vairolent_waking *wakings,
+struct vairolent_told vairolent_act_as_in(uint8_t *row, int16_t *adjustments, struct vairolent_waking *wakings,
                                           uint8_t process, uint32_t user, uint32_t group);
 static inline struct vairolent_told vairolent_act_as(struct vairolent_host *host, uint8_t process, uint32_t user,
                                                      uint32_t group)
 {
-    return vairolent_act_as_in(host->row, host->pool, host->wakings, process, user, group);
+    return vairolent_act_as_in(host->row, host->adjustments, host->wakings, process, user, group);
 }
 
 /* Shows a semaphore. The host stays as it is.
  * Refused, the first that applies: ESRCH process not 1 to 8; EBUSY it is asleep; EINVAL no such set; EACCES reading is
  * not permitted; EINVAL a number at or above the set's count. */
-struct vairolent_queried vairolent_query_in(const uint8_t *row, const uint32_t *pool, uint8_t process,
+struct vairolent_queried vairolent_query_in(const uint8_t *row, const int16_t *adjustments, uint8_t process,
                                             int32_t identifier, uint16_t number);
 static inline struct vairolent_queried vairolent_query(const struct vairolent_host *host, uint8_t process,
                                                        int32_t identifier, uint16_t number)
 {
-    return vairolent_query_in(host->row, host->pool, process, identifier, number);
+    return vairolent_query_in(host->row, host->adjustments, process, identifier, number);
 }
 
 /* Reads all values of a set at once, and with them all else that queries show: all its semaphores, by judging each of
@@ -321,12 +310,12 @@ static inline struct vairolent_queried vairolent_query(const struct vairolent_ho
  * count.
  * Refused, the first that applies: ESRCH process not 1 to 8; EBUSY it is asleep; EINVAL no such set; EACCES reading is
  * not permitted. */
-struct vairolent_queried_set vairolent_query_set_in(const uint8_t *row, const uint32_t *pool, uint8_t process,
+struct vairolent_queried_set vairolent_query_set_in(const uint8_t *row, const int16_t *adjustments, uint8_t process,
                                                     int32_t identifier);
 static inline struct vairolent_queried_set vairolent_query_set(const struct vairolent_host *host, uint8_t process,
                                                                int32_t identifier)
 {
-    return vairolent_query_set_in(host->row, host->pool, process, identifier);
+    return vairolent_query_set_in(host->row, host->adjustments, process, identifier);
 }
 
 #ifdef __cplusplus

@@ -19,7 +19,7 @@ static void busy(uint8_t count)
 
 static struct vairolent_told set_bytes(int32_t set, const uint8_t *values, size_t bytes)
 {
-    return vairolent_set_all_in(host.row, host.pool, host.wakings, 1, set, values, bytes);
+    return vairolent_set_all_in(host.row, host.adjustments, host.wakings, 1, set, values, bytes);
 }
 
 /* Every number of bytes: only those of as many values as the set has are taken; any other number is EINVAL, whole or
@@ -134,22 +134,22 @@ static void wakings(void)
     want("who still waits elsewhere", vairolent_query_set(&host, 1, 1).increase_masks[0], 128);
 }
 
-/* Adjustments of every process, and at every semaphore of the set, are forgotten, those of another set and the last
- * processes are not. Each process has two in each set, its own and its neighbour's: the whole pool. */
+/* Adjustments of every process at every semaphore of the set are forgotten, those of another set and the last processes
+ * are not. */
 static void forgotten_and_kept(void)
 {
     static const int32_t values[MOST] = {8, 7, 6, 5, 4, 3, 2, 1}, none[MOST];
-    static const uint8_t lasts[MOST] = {8, 2, 3, 4, 5, 6, 7, 8};
     host = vairolent_fresh();
     for (int32_t set = 0; set < 2; set++) {
         vairolent_create(&host, 1, MOST, 0666);
         for (uint8_t process = 1; process <= VAIROLENT_PROCESSES; process++) {
-            told_is("its own", operate(process, set, process - 1, process, SEM_UNDO), 0, NONE);
-            told_is("its neighbour's", operate(process, set, process % MOST, process, SEM_UNDO), 0, NONE);
+            for (unsigned short number = 0; number < MOST; number++)
+                operate(process, set, number, process, SEM_UNDO);
         }
     }
     told_is("the first set", vairolent_set_all(&host, 1, 0, COUNTED(values)), 0, NONE);
-    want("the last processes", memcmp(vairolent_query_set(&host, 1, 0).lasts, lasts, sizeof lasts), 0);
+    for (size_t number = 0; number < MOST; number++)
+        want("the last process", vairolent_query_set(&host, 1, 0).lasts[number], VAIROLENT_PROCESSES);
     for (uint8_t process = 1; process <= VAIROLENT_PROCESSES; process++)
         want("an exit", vairolent_exit(&host, process).code, 0);
     values_are("nothing is given back", 0, COUNTED(values));

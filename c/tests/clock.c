@@ -201,10 +201,10 @@ static void nothing_else(void)
     operate(8, 0, 0, 2, SEM_UNDO);
     told_is("asleep", vairolent_operate_within(&host, 5, 0, COUNTED(both), 4), VAIROLENT_ASLEEP, 1);
     told_is("behind it", operate(6, 0, 0, 0, 0), VAIROLENT_ASLEEP, 0);
-    uint32_t pool[VAIROLENT_POOL];
-    memcpy(pool, host.pool, sizeof pool);
+    int16_t adjustments[VAIROLENT_ADJUSTMENTS];
+    memcpy(adjustments, host.adjustments, sizeof adjustments);
     ends("one of two", 4, "5");
-    want("the pool", memcmp(pool, host.pool, sizeof pool), 0);
+    want("the adjustments", memcmp(adjustments, host.adjustments, sizeof adjustments), 0);
     struct vairolent_queried_set seen = vairolent_query_set(&host, 8, 0);
     want("the values", seen.values[0] * 10 + seen.values[1], 20);
     want("the last processes", seen.lasts[0] * 10 + seen.lasts[1], 80);

@@ -10,19 +10,19 @@
 /* The archive's functions as the convention has them. */
 extern void *raw_limits(void *result) __asm__("vairolent_limits");
 extern void *raw_fresh(void *result) __asm__("vairolent_fresh");
-extern void *raw_signal(void *result, uint8_t *, uint32_t *, struct vairolent_waking *, uint8_t)
+extern void *raw_signal(void *result, uint8_t *, int16_t *, struct vairolent_waking *, uint8_t)
     __asm__("vairolent_signal_in");
-extern void *raw_query(void *result, const uint8_t *, const uint32_t *, uint8_t, int32_t, uint16_t)
+extern void *raw_query(void *result, const uint8_t *, const int16_t *, uint8_t, int32_t, uint16_t)
     __asm__("vairolent_query_in");
-extern void *raw_query_set(void *result, const uint8_t *, const uint32_t *, uint8_t, int32_t)
+extern void *raw_query_set(void *result, const uint8_t *, const int16_t *, uint8_t, int32_t)
     __asm__("vairolent_query_set_in");
 
 static void limits_into(void *result) { raw_limits(result); }
 static void fresh_into(void *result) { raw_fresh(result); }
-static void told_into(void *result) { raw_signal(result, host.row, host.pool, host.wakings, 1); }
-static void wakings_into(void *wakings) { vairolent_signal_in(host.row, host.pool, wakings, 1); }
-static void queried_into(void *result) { raw_query(result, host.row, host.pool, 1, 0, 0); }
-static void queried_set_into(void *result) { raw_query_set(result, host.row, host.pool, 1, 0); }
+static void told_into(void *result) { raw_signal(result, host.row, host.adjustments, host.wakings, 1); }
+static void wakings_into(void *wakings) { vairolent_signal_in(host.row, host.adjustments, wakings, 1); }
+static void queried_into(void *result) { raw_query(result, host.row, host.adjustments, 1, 0, 0); }
+static void queried_set_into(void *result) { raw_query_set(result, host.row, host.adjustments, 1, 0); }
 
 /* A field of a struct: its first byte, and how many it has. */
 struct field {
@@ -69,8 +69,9 @@ static void sizes(void)
 {
     static const struct field limits[] = {FIELD(limits, sets), FIELD(limits, semaphores), FIELD(limits, processes),
                                           FIELD(limits, operations), FIELD(limits, value_max),
-                                          FIELD(limits, mode_max), FIELD(limits, row_bytes), FIELD(limits, pool)};
-    static const struct field hosts[] = {FIELD(host, row), FIELD(host, pool), FIELD(host, wakings)};
+                                          FIELD(limits, mode_max), FIELD(limits, row_bytes),
+                                          FIELD(limits, adjustments)};
+    static const struct field hosts[] = {FIELD(host, row), FIELD(host, adjustments), FIELD(host, wakings)};
     static const struct field told[] = {FIELD(told, code),  FIELD(told, value),          FIELD(told, looks),
                                         FIELD(told, woken), FIELD(told, position.there), FIELD(told, position.at)};
     static const struct field wakings[] = {{0, sizeof host.wakings}};
@@ -86,7 +87,7 @@ static void sizes(void)
     const struct padding none = {0, 0}, three = {.between = 3};
     host = vairolent_fresh();
     struct_is("struct vairolent_limits", sizeof(struct vairolent_limits), limits_into, none, COUNTED(limits));
-    struct_is("struct vairolent_host", sizeof host, fresh_into, three, COUNTED(hosts));
+    struct_is("struct vairolent_host", sizeof host, fresh_into, (struct padding){.between = 1}, COUNTED(hosts));
     struct_is("struct vairolent_told", sizeof(struct vairolent_told), told_into, (struct padding){.behind = 6},
               COUNTED(told));
     struct_is("the wakings of a host", sizeof host.wakings, wakings_into, none, COUNTED(wakings));
@@ -107,9 +108,9 @@ static void limits(void)
     want("VAIROLENT_VALUE_MAX", VAIROLENT_VALUE_MAX, (long long)built.value_max);
     want("VAIROLENT_MODE_MAX", VAIROLENT_MODE_MAX, (long long)built.mode_max);
     want("VAIROLENT_ROW_BYTES", VAIROLENT_ROW_BYTES, (long long)built.row_bytes);
-    want("VAIROLENT_POOL", VAIROLENT_POOL, (long long)built.pool);
+    want("VAIROLENT_ADJUSTMENTS", VAIROLENT_ADJUSTMENTS, (long long)built.adjustments);
     want("the bytes of a row", sizeof host.row, (long long)built.row_bytes);
-    want("the bytes of the pool", sizeof host.pool, 4 * (long long)built.pool);
+    want("the bytes of the adjustments", sizeof host.adjustments, 2 * (long long)built.adjustments);
     want("the bytes of the wakings", sizeof host.wakings, 4 * (long long)built.processes);
 }
 
@@ -321,13 +322,13 @@ static void whole_operations(void)
         if (bytes == 0 || bytes % VAIROLENT_OPERATION_BYTES != 0)
             wanted = EINVAL;
         struct vairolent_told told =
-            vairolent_operate_in(host.row, host.pool, host.wakings, 1, 0, false, 0, zeros, bytes);
+            vairolent_operate_in(host.row, host.adjustments, host.wakings, 1, 0, false, 0, zeros, bytes);
         told_is("so many bytes", told, wanted, NONE);
-        told = vairolent_operate_in(host.row, host.pool, host.wakings, 1, 0, true, 0, zeros, bytes);
+        told = vairolent_operate_in(host.row, host.adjustments, host.wakings, 1, 0, true, 0, zeros, bytes);
         told_is("so many bytes, with a wait", told, wanted, NONE);
     }
-    want("199 bytes", vairolent_operate_in(host.row, host.pool, host.wakings, 1, 0, false, 0, zeros, 199).code,
-         EINVAL);
+    want("199 bytes",
+         vairolent_operate_in(host.row, host.adjustments, host.wakings, 1, 0, false, 0, zeros, 199).code, EINVAL);
 }
 
 /* Sleepers with as many operations as there can be: one is woken, and one is ended with ERANGE at its last. */

@@ -174,7 +174,7 @@ static void nothing_left(void)
     vairolent_remove(&host, OWNER, 0);
     vairolent_act_as(&host, OWNER, USER, GROUP);
     want("the row", memcmp(host.row, left.row, sizeof host.row), 0);
-    want("the pool", memcmp(host.pool, left.pool, sizeof host.pool), 0);
+    want("the adjustments", memcmp(host.adjustments, left.adjustments, sizeof host.adjustments), 0);
 }
 
 /* Every call that names its caller is refused with this code, with these arguments for all of them. */

@@ -89,7 +89,7 @@ static inline void refused(const char *what, struct vairolent_host before, struc
     told_is(what, told, code, position);
     want(what, (long long)(told.value + told.looks + told.woken), 0);
     want(what, memcmp(host.row, before.row, sizeof host.row), 0);
-    want(what, memcmp(host.pool, before.pool, sizeof host.pool), 0);
+    want(what, memcmp(host.adjustments, before.adjustments, sizeof host.adjustments), 0);
     wakings_are(what, COUNTED(nobody));
 }
 

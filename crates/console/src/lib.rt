@@ -3,8 +3,8 @@ ghost use Rattle.std.specs.Prelude.{◌≡◌};
 ghost use Rattle.host.specs.Holding.{host_in};
 ghost use Rattle.replaying.specs.Replay.{stage_in, last_stage};
 
-use host::{HOST_BYTES, fresh, no_entries};
-use model::{Engine, POOL};
+use host::{HOST_BYTES, fresh, no_adjustments};
+use model::{ALL_ADJUSTMENTS, Engine};
 use replaying::{Progress, piece, start};
 
 // Writes the text of a file, in large pieces, and answers the progress behind all of its events. Whatever the host held, it
@@ -12,19 +12,26 @@ use replaying::{Progress, piece, start};
 // so that what was written is a beginning of the text, with no hole in it; the events run on to the last all the same.
 pub fn print(
     host: &mut [u8; HOST_BYTES],
-    pool: &mut [u32; POOL],
+    adjustments: &mut [i16; ALL_ADJUSTMENTS],
     engine: Engine,
     file: &[u8],
 ) -> Progress
-    ensures { stage_in (host_in host.new pool.new) result ≡ last_stage engine file.now }
+    ensures { stage_in (host_in host.new adjustments.new) result ≡ last_stage engine file.now }
 {
     *host = fresh();
-    *pool = no_entries();
+    *adjustments = no_adjustments();
     let mut out = io::large_buffer();
     let mut progress = start(file, &mut out);
     let mut whole = io::write_all(libc::STDOUT_FILENO, &out[..progress.written]);
     while 0 < progress.left {
-        progress = piece(&mut *host, &mut *pool, engine, file, progress, &mut out);
+        progress = piece(
+            &mut *host,
+            &mut *adjustments,
+            engine,
+            file,
+            progress,
+            &mut out,
+        );
         if whole {
             whole = io::write_all(libc::STDOUT_FILENO, &out[..progress.written]);
         }

@@ -10,12 +10,12 @@ fn main() {
     let take = [0u8, 0, 255, 255, 0, 0];
     let give = [0u8, 0, 1, 0, 0, 0];
     let mut host = host::fresh();
-    let mut pool = host::no_entries();
+    let mut adjustments = host::no_adjustments();
     let mut wakings = [0u8; WAKING_BYTES];
-    create(&mut host, &mut pool, &mut wakings, 1, 1, MODE_MAX);
+    create(&mut host, &mut adjustments, &mut wakings, 1, 1, MODE_MAX);
     let asleep = operate(
         &mut host,
-        &mut pool,
+        &mut adjustments,
         &mut wakings,
         Engine::Quick,
         1,
@@ -26,7 +26,7 @@ fn main() {
     check::expect(asleep.looks == 0);
     let given = operate(
         &mut host,
-        &mut pool,
+        &mut adjustments,
         &mut wakings,
         Engine::Quick,
         2,

@@ -1,5 +1,5 @@
 -- The parts of the row that hold the callers: the numbers of one process, and those of all.
-use Rattle.std.proofs.Common.{◌≡◌, ℕ, ◌≤◌, List, refl, ap, ◌∙◌, ap₂}
+use Rattle.std.proofs.Common.{◌≡◌, ℕ, ◌≤◌, refl, ap, ◌∙◌}
 use Rattle.model.specs.declared.Caller.{Caller}
 use Rattle.model.specs.State.{caller_of}
 use Rattle.model.specs.Events.{with_caller}
@@ -19,9 +19,8 @@ module _ (r : Row) (p : ℕ) (some : 1 ≤ p) where
 
 -- a host that holds a state, with other numbers of a process: it holds the state with them
 pub caller_held : (x : Host) → x ≡ host_of (state_in x) → (p : ℕ) → 1 ≤ p → (c : Caller)
-    → record { row = with_caller_at x.row p c; pool = x.pool; adjustments = x.adjustments } ≡ host_of (record { sets = sets_in x.row; callers = with_caller (callers_in x.row) p c; table = table_in x; queue = queue_in x.row; time = time_in x.row })
+    → record { row = with_caller_at x.row p c; adjustments = x.adjustments } ≡ host_of (record { sets = sets_in x.row; callers = with_caller (callers_in x.row) p c; table = table_in x; queue = queue_in x.row; time = time_in x.row })
 caller_held x k p some c =
-    ap₂ (λ (r : Row) (es : List ℕ). record { row = r; pool = es; adjustments = x.adjustments })
+    ap (λ (r : Row). record { row = r; adjustments = x.adjustments })
     (caller_put x.row p some c
     ∙ by_groups _ _ (ap (λ (y : Host). set_parts y.row) k) refl refl (ap (λ (y : Host). clock_parts y.row) k) (ap (λ (y : Host). queue_parts y.row) k))
-    (ap (λ (y : Host). y.pool) k)

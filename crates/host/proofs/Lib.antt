@@ -11,4 +11,3 @@ pub mod SetRows
 pub mod CallerRows
 pub mod HeldLaws
 pub mod SemaphoreLaws
-pub mod StoreLaws

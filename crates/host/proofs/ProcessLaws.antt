@@ -4,12 +4,12 @@ use mathlib.Core.Path.{subst⁻¹}
 use lib.ListN.{length-replicate, replicate-append-replicate}
 use lib.Seq.{paste, take-append-le, drop-append-le, take-append-add, drop-append-add, take-length}
 use Rattle.model.specs.Limits.{processes, array_bytes}
-use Rattle.model.specs.State.{Sleeper, no_sleeper, of_process}
+use Rattle.model.specs.State.{Sleeper, no_sleeper}
 use Rattle.model.specs.Waking.{without}
 use Rattle.model.specs.Runs.{All, none, also}
 use Rattle.model.specs.Invariant.{Distinct, apart}
 use Rattle.model.proofs.Lists.{all_at}
-use Rattle.host.specs.Holding.{by_process, block_of, blocks_from}
+use Rattle.host.specs.Holding.{of_process, by_process, block_of, blocks_from}
 
 -- nobody is of the process
 abbrev pub Awake : ℕ → List Sleeper → Type 0

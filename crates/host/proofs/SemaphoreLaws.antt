@@ -5,12 +5,12 @@ use borrow.Author.Tests.{eqb-false}
 use lib.Bits.{bit_and, bit_or}
 use lib.Pow.{pow-lt}
 use lib.Seq.{sets, set_comm, set-get_or, set_out}
-use Rattle.model.specs.State.{row, fresh_state, of_process}
+use Rattle.model.specs.State.{row, fresh_state}
 use Rattle.model.specs.Operation.{has_bit}
 use Rattle.model.proofs.Bits.{bit_zero, bit_or_same, bit_or_other, has_bit_bit}
 use Rattle.host.specs.Parts.{Part, place, host_bytes, number_at, bytes_of, numbers_from, Row, row_in, with, put}
 use Rattle.host.specs.Rows.{masked_from, masked}
-use Rattle.host.specs.Holding.{by_process, blocks_from, order_of, host_of}
+use Rattle.host.specs.Holding.{of_process, by_process, blocks_from, order_of, host_of}
 use Rattle.host.proofs.PartLaws.{width, count, spot, by_values, by_parts, length_part, read_part, write_part, with_again, with_same, with_here}
 use Rattle.host.proofs.SleeperLaws.{byte_write}
 

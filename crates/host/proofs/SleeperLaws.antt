@@ -1,6 +1,6 @@
 -- Parts whose numbers are bytes: one of them, one after the other, several in a loop, and a stretch of them in place; and
 -- where adjustments begin.
-use Rattle.std.proofs.Common.{◌≡◌, ℕ, zero, suc, ◌+◌, ◌-◌, ◌*◌, ◌/◌, ◌%◌, ◌^◌, ◌<◌, ◌≤◌, min, Bool, true, false, cond, ◌||◌, eqb, ltb, leb, List, [], ◌∷◌, length, get_or, take, drop, set, replicate, sym, refl, ap, ◌∙◌, subst, ap₂, ⊎_elim, arith, length-set, drop_of_length-le, length-take, take_all, drop-cons, take-take, drop-drop, ltb-false, le-ltb, ne_eqb, leb-false}
+use Rattle.std.proofs.Common.{◌≡◌, ℕ, zero, suc, ◌+◌, ◌-◌, ◌*◌, ◌%◌, ◌^◌, ◌<◌, ◌≤◌, min, Bool, true, false, cond, ◌||◌, eqb, ltb, leb, List, [], ◌∷◌, length, get_or, take, drop, set, replicate, sym, refl, ap, ◌∙◌, subst, ap₂, ⊎_elim, arith, length-set, drop_of_length-le, length-take, take_all, drop-cons, take-take, drop-drop, ltb-false, le-ltb, ne_eqb, leb-false}
 use native.Mathlib.Nat.{min-eq_left, min-eq_right, min-le_left}
 use borrow.Author.Tests.{eqb-false, lt-leb}
 use lib.Seq.{sets, length-sets, take-nil}
@@ -197,15 +197,6 @@ module _ (p slot : ℕ) where
   pub undo_at_lem : 1 ≤ p → p ≤ processes → slot < slots → undo_at p slot ≡ undo_row p slot
   unfolding undo_at no_process
   undo_at_lem some few l = rw (ne_eqb p 0 (λ (e : p ≡ 0). omega arith), le-ltb processes p few, lt-leb slots slot l)
-
-  -- they begin with a row of eight
-  pub undo_whole : {start : ℕ} → start ≡ undo_at p slot → semaphores * (start / semaphores) ≡ start
-  unfolding undo_at
-  undo_whole {start} e = go (no_process p || leb slots slot) e
-    where
-      go : (b : Bool) → start ≡ cond b all_adjustments (undo_row p slot) → semaphores * (start / semaphores) ≡ start
-      go true e = omega arith
-      go false e = omega arith
 
   -- eight from there on, or none
   pub undo_room : {start : ℕ} → start ≡ undo_at p slot → start < all_adjustments → start + semaphores ≤ all_adjustments

@@ -1,19 +1,22 @@
 -- How the row and the adjustments hold a state.
-use Rattle.std.specs.Prelude.{◌≡◌, ℕ, zero, suc, ◌+◌, ◌-◌, ◌*◌, List, [], ◌∷◌, ◌++◌, map, length, take, drop, replicate, ℤ, slice_index}
+use Rattle.std.specs.Prelude.{◌≡◌, ℕ, zero, suc, ◌+◌, ◌-◌, ◌*◌, cond, List, [], ◌∷◌, ◌++◌, map, length, take, drop, replicate, ℤ, ◌==◌, slice_index}
 use Rattle.model.specs.declared.Set.{Set}
 use Rattle.model.specs.declared.Caller.{Caller}
 use Rattle.model.specs.Limits.{slots, processes, array_bytes}
-use Rattle.model.specs.State.{Table, Sleeper, of_process, Callers, State}
+use Rattle.model.specs.State.{Table, Sleeper, Callers, State}
 use Rattle.model.specs.Marks.{named}
-use Rattle.model.specs.Pool.{undos_of}
 use Rattle.model.specs.Runs.{Reached}
-use Rattle.pool.specs.Entries.{pool_of, adjustments_in}
-use Rattle.host.specs.Parts.{Part, generations, counts, owners, owning_groups, modes, users, groups, values, lasts, clock, asleep, order, sleeps_at, sizes, names, undos, starts, waits, arrays, Row, row_in, with, put}
+use Rattle.host.specs.Parts.{Part, generations, counts, owners, owning_groups, modes, users, groups, values, lasts, clock, asleep, order, sleeps_at, sizes, names, starts, waits, arrays, Row, row_in, with, put}
 use Rattle.host.specs.Waits.{wait_number, wait_of}
 
 -- ---- from a state to a row
 
--- what the sleepers of the n processes from p on have; 0 of those that are awake
+-- what the sleeper of a process has; the default if the process is awake
+unfoldable pub of_process : {A : Type 0} → A → (Sleeper → A) → ℕ → List Sleeper → A
+of_process d f p [] = d
+of_process d f p (s ∷ q) = cond (s.process == p) (f s) (of_process d f p q)
+
+-- .. of the n processes from p on
 unfoldable pub by_process : (Sleeper → ℕ) → ℕ → ℕ → List Sleeper → List ℕ
 by_process f zero p q = []
 by_process f (suc n) p q = of_process 0 f p q ∷ by_process f n (p + 1) q
@@ -47,13 +50,12 @@ pub record Kept : Type 0 where
   pub part : Part
   pub of : Sleeper → ℕ
 
--- the slot, the bytes of the array, the masks of the semaphores that the array names and undoes, the start and the wait
+-- the slot, the bytes of the array, the mask of the semaphores that the array names, the start and the wait
 abbrev pub kept : List Kept
 kept =
     record { part = sleeps_at; of = the_slot }
     ∷ record { part = sizes; of = the_size }
     ∷ record { part = names; of = named }
-    ∷ record { part = undos; of = undos_of }
     ∷ record { part = starts; of = the_start }
     ∷ record { part = waits; of = the_wait }
     ∷ []
@@ -83,25 +85,20 @@ with_callers r c = with (with r users c.users) groups c.groups
 abbrev pub with_table : Row → Table → Row
 with_table r t = with (with r values t.values) lasts t.lasts
 
--- all that the host holds: what its row says, its pool, and the adjustments that the pool holds
+-- all that the host holds: what its row says, and the adjustments
 pub record Host : Type 0 where
   pub row : Row
-  pub pool : List ℕ
   pub adjustments : List ℤ
-
--- adjustments have one pool
-abbrev pub host_as : Row → List ℤ → Host
-host_as r adjustments = record { row = r; pool = pool_of adjustments; adjustments = adjustments }
 
 -- how it holds a state
 abbrev pub host_of : State → Host
 host_of s =
     let owned = with_callers (with_sets (λ (p : Part). []) s.sets) s.callers in
-    host_as (with_queue (with_table (with_time owned s.time) s.table) s.queue) s.table.adjustments
+    record { row = with_queue (with_table (with_time owned s.time) s.table) s.queue; adjustments = s.table.adjustments }
 
 -- a host with another table and queue: its sets, its callers and its time stay
 abbrev pub host_with : Host → Table → List Sleeper → Host
-host_with x t q = host_as (with_queue (with_table x.row t) q) t.adjustments
+host_with x t q = record { row = with_queue (with_table x.row t) q; adjustments = t.adjustments }
 
 -- ---- from a host to its state
 
@@ -147,8 +144,8 @@ abbrev pub callers_in : Row → Callers
 callers_in r = record { users = r users; groups = r groups }
 
 -- what a process sleeps with, replaced but for the array: its call, and since when and how long it waits
-abbrev pub with_call : Row → ℕ → ℕ → ℕ → ℕ → ℕ → Row
-with_call r p slot size mask undo = put (put (put (put r sleeps_at (entry p) slot) sizes (entry p) size) names (entry p) mask) undos (entry p) undo
+abbrev pub with_call : Row → ℕ → ℕ → ℕ → ℕ → Row
+with_call r p slot size mask = put (put (put r sleeps_at (entry p) slot) sizes (entry p) size) names (entry p) mask
 
 abbrev pub with_wait : Row → ℕ → ℕ → ℕ → Row
 with_wait r p start wait = put (put r starts (entry p) start) waits (entry p) wait
@@ -195,9 +192,9 @@ abbrev pub state_in : Host → State
 state_in x =
     record { sets = sets_in x.row; callers = callers_in x.row; table = table_in x; queue = queue_in x.row; time = time_in x.row }
 
--- the host that is lent: its bytes, and its pool
-abbrev pub host_in : List ℕ → List ℕ → Host
-host_in h pool = record { row = row_in h; pool = pool; adjustments = adjustments_in pool }
+-- the host that is lent: its bytes, and its adjustments
+abbrev pub host_in : List ℕ → List ℤ → Host
+host_in h adjustments = record { row = row_in h; adjustments = adjustments }
 
 -- The one premise of a promise: the host holds a state that is fresh or came back from an event.
 pub record Held (x : Host) : Type 0 where

@@ -20,12 +20,11 @@ pub data Part : Type 0 where
   -- how many sleep, and their processes, oldest first
   asleep : Part
   order : Part
-  -- what a process sleeps with: the slot, the bytes of its array, the mask of the semaphores that the array names and of those that
-  -- it names with SEM_UNDO and an amount other than 0, the time when it went to sleep, and its wait
+  -- what a process sleeps with: the slot, the bytes of its array, the mask of the semaphores that the array names, the time when
+  -- it went to sleep, and its wait
   sleeps_at : Part
   sizes : Part
   names : Part
-  undos : Part
   starts : Part
   waits : Part
   -- the bytes of the arrays
@@ -45,7 +44,7 @@ abbrev pub of_clock : List Part
 of_clock = clock ∷ []
 
 abbrev pub of_queue : List Part
-of_queue = asleep ∷ order ∷ sleeps_at ∷ sizes ∷ names ∷ undos ∷ starts ∷ waits ∷ arrays ∷ []
+of_queue = asleep ∷ order ∷ sleeps_at ∷ sizes ∷ names ∷ starts ∷ waits ∷ arrays ∷ []
 
 abbrev pub parts : List Part
 parts = of_sets ++ of_callers ++ of_table ++ of_clock ++ of_queue
@@ -77,10 +76,9 @@ listed order = nth 11
 listed sleeps_at = nth 12
 listed sizes = nth 13
 listed names = nth 14
-listed undos = nth 15
-listed starts = nth 16
-listed waits = nth 17
-listed arrays = nth 18
+listed starts = nth 15
+listed waits = nth 16
+listed arrays = nth 17
 
 abbrev pub number : Part → ℕ
 number p = (listed p).number
@@ -107,7 +105,6 @@ shapes =
     ∷ shape 1 all_semaphores
     ∷ shape 8 1
     ∷ shape 1 1
-    ∷ shape 1 processes
     ∷ shape 1 processes
     ∷ shape 1 processes
     ∷ shape 1 processes

@@ -1,6 +1,6 @@
 -- Elements of a list from a place on: reading them, and writing them. What lies beyond the end reads as the default and is not
 -- written.
-use Rattle.std.specs.Prelude.{ℕ, zero, suc, ◌+◌, ◌^◌, cond, ◌||◌, List, [], ◌∷◌, ℤ, nat_le, slice_index_or, slice_set}
+use Rattle.std.specs.Prelude.{ℕ, zero, suc, ◌+◌, ◌^◌, cond, ◌||◌, List, [], ◌∷◌, nat_le, slice_index_or, slice_set}
 use Rattle.model.specs.Limits.{slots, all_adjustments}
 use Rattle.model.specs.State.{undo_row}
 use Rattle.model.specs.Operation.{has_bit}
@@ -18,11 +18,6 @@ masked_from j mask x (suc n) at l = masked_from (j + 1) mask x n (at + 1) (cond 
 
 abbrev pub masked : ℕ → ℕ → ℕ → ℕ → List ℕ → List ℕ
 masked mask x n at l = masked_from 0 mask x n at l
-
--- of these adjustments those in the mask are stored, from a place on; the first number is where in the mask they begin
-unfoldable pub stored_from : ℕ → ℕ → List ℤ → ℕ → List ℤ → List ℤ
-stored_from j mask [] at l = l
-stored_from j mask (x ∷ new) at l = stored_from (j + 1) mask new (at + 1) (cond (has_bit mask (2 ^ j)) (slice_set l at x) l)
 
 -- where the adjustments of a process for a slot begin; beyond all of them for no process or no slot
 unfoldable pub undo_at : ℕ → ℕ → ℕ

@@ -1,4 +1,4 @@
-// The host: one row of bytes, which the caller keeps and lends to each event, and beside it the pool of undo entries.
+// The host: one row of bytes, which the caller keeps and lends to each event, and beside it the undo adjustments.
 //
 // src/parts.rt has the table of the row's parts, and nothing else knows where a part lies: readers and writers stand here,
 // by subject. Each is total. What lies beyond a part reads as 0 and is not written. A writer promises the whole row after
@@ -14,7 +14,7 @@ mod sleepers;
 mod start;
 mod waits;
 
-pub use adjustments::{adjustments_of, put_adjustments};
+pub use adjustments::{adjustments_of, put_adjustment, put_adjustments};
 pub use callers::{caller_of, put_caller};
 pub use clock::{put_time, time_of};
 pub use parts::HOST_BYTES;
@@ -22,7 +22,7 @@ pub use semaphores::{last_at, lasts_of, put_lasts, put_value, put_values, value_
 pub use sets::{put_set, set_at};
 pub use sleepers::{
     array_of, asleep_of, clear_array, names_at, process_at, put_asleep, put_call, put_process,
-    room_of, size_at, slot_at, slot_byte, store_array, undos_at,
+    room_of, size_at, slot_at, slot_byte, store_array,
 };
-pub use start::{fresh, no_entries};
+pub use start::{fresh, no_adjustments};
 pub use waits::{is_due, put_wait, wait_number};

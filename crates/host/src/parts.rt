@@ -32,17 +32,15 @@ pub const ASLEEP_AT: usize = CLOCK_AT + 8;
 
 pub const ORDER_AT: usize = ASLEEP_AT + 1;
 
-// What a process sleeps with: the slot, the bytes of its array, the mask of the semaphores that the array names and of those
-// that it names with SEM_UNDO and an amount other than 0, the time when it went to sleep and its wait (8 bytes each).
+// What a process sleeps with: the slot, the bytes of its array, the mask of the semaphores that the array names, the time
+// when it went to sleep and its wait (8 bytes each).
 pub const SLEEPS_AT: usize = ORDER_AT + PROCESSES;
 
 pub const SIZES_AT: usize = SLEEPS_AT + PROCESSES;
 
 pub const NAMES_AT: usize = SIZES_AT + PROCESSES;
 
-pub const UNDOS_AT: usize = NAMES_AT + PROCESSES;
-
-pub const STARTS_AT: usize = UNDOS_AT + PROCESSES;
+pub const STARTS_AT: usize = NAMES_AT + PROCESSES;
 
 pub const WAITS_AT: usize = STARTS_AT + 8 * PROCESSES;
 

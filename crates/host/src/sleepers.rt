@@ -2,12 +2,10 @@
 ghost use Rattle.std.specs.Prelude.{◌≡◌, ◌*◌, min, take, replicate, slice_index};
 ghost use Rattle.std.proofs.lemmas.List.Edits.{sets};
 ghost use Rattle.model.specs.Limits.{array_bytes};
-ghost use Rattle.host.specs.Parts.{asleep, order, sleeps_at, sizes, names, undos, arrays, row_in, with, put};
+ghost use Rattle.host.specs.Parts.{asleep, order, sleeps_at, sizes, names, arrays, row_in, with, put};
 ghost use Rattle.host.specs.Holding.{entry, with_call, room_in, array_in};
 
-use crate::parts::{
-    ARRAYS_AT, ASLEEP_AT, HOST_BYTES, NAMES_AT, ORDER_AT, SIZES_AT, SLEEPS_AT, UNDOS_AT,
-};
+use crate::parts::{ARRAYS_AT, ASLEEP_AT, HOST_BYTES, NAMES_AT, ORDER_AT, SIZES_AT, SLEEPS_AT};
 use model::{ARRAY_BYTES, PROCESSES};
 use std::num::wrapping_sub_u8;
 
@@ -92,17 +90,9 @@ pub fn names_at(host: &[u8; HOST_BYTES], process: u8) -> u8
     if i < PROCESSES { host[NAMES_AT + i] } else { 0 }
 }
 
-// .. and those that it names with SEM_UNDO and an amount other than 0.
-pub fn undos_at(host: &[u8; HOST_BYTES], process: u8) -> u8
-    ensures { result ≡ slice_index (row_in host.now undos) (entry process) }
-{
-    let i = entry_of(process);
-    if i < PROCESSES { host[UNDOS_AT + i] } else { 0 }
-}
-
-// What a process sleeps with, but for the array: its slot, the array's bytes, what it names, and what of that it undoes.
-pub fn put_call(host: &mut [u8; HOST_BYTES], process: u8, slot: u8, size: u8, names: u8, undos: u8)
-    ensures { row_in host.new ≡ with_call (row_in host.old) process slot size names undos }
+// What a process sleeps with, but for the array: its slot, the array's bytes, and what it names.
+pub fn put_call(host: &mut [u8; HOST_BYTES], process: u8, slot: u8, size: u8, names: u8)
+    ensures { row_in host.new ≡ with_call (row_in host.old) process slot size names }
 {
     let all: &mut [u8] = host;
     let i = entry_of(process);
@@ -110,7 +100,6 @@ pub fn put_call(host: &mut [u8; HOST_BYTES], process: u8, slot: u8, size: u8, na
         all[SLEEPS_AT + i] = slot;
         all[SIZES_AT + i] = size;
         all[NAMES_AT + i] = names;
-        all[UNDOS_AT + i] = undos;
     }
 }
 

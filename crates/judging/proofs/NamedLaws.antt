@@ -1,16 +1,14 @@
 -- The mask of named semaphores: the model's, where no number is too high; and the loop that gathers it.
 use Prim.Native.Nat.{ℕ, ◌+◌, ◌*◌, ◌/◌, ◌^◌, ◌<◌}
 use native.Mathlib.Nat.{mod-eq_of_lt}
-use mathlib.Core.Path.{◌≡◌, refl, sym, ap, ◌∙◌}
-use mathlib.Core.Bool.{Bool, true, false, cond}
+use mathlib.Core.Path.{◌≡◌, refl}
 use mathlib.Core.List.{List, [], ◌∷◌}
-use lib.Bits.{bit_or, or_zero_r}
+use lib.Bits.{bit_or}
 use lib.ListN.{length}
 use Rattle.model.specs.declared.Operation.{Operation}
 use Rattle.model.specs.Limits.{semaphores}
 use Rattle.model.specs.Operation.{operation_at}
 use Rattle.model.specs.Marks.{named_by}
-use Rattle.model.specs.Pool.{undoes, undoing}
 use Rattle.model.specs.Runs.{All}
 use Rattle.model.proofs.Lists as all
 use Rattle.judging.specs.Named.{number_bit, named_within}
@@ -31,17 +29,3 @@ module _ (bytes : List ℕ) (m i : ℕ) where
   pub done : i ≡ length bytes / 6 → named_within m (rest bytes i) ≡ m
   unfolding named_within
   done e = rw (none bytes i e)
-
-  -- .. and of those that undo
-  pub more_undone : (o : Operation) → i < length bytes / 6 → o ≡ operation_at bytes (i * 6)
-      → named_within (bit_or m (cond (undoes o) (number_bit o.number) 0)) (undoing (rest bytes (i + 1))) ≡ named_within m (undoing (rest bytes i))
-  unfolding undoing named_within
-  more_undone o h eo = go (undoes o) ∙ sym (ap (λ (os : List Operation). named_within m (undoing os)) (first bytes i h ∙ ap (λ (x : Operation). x ∷ rest bytes (i + 1)) (sym eo)))
-    where
-      go : (b : Bool) → named_within (bit_or m (cond b (number_bit o.number) 0)) (undoing (rest bytes (i + 1))) ≡ named_within m (cond b (o ∷ undoing (rest bytes (i + 1))) (undoing (rest bytes (i + 1))))
-      go true = refl
-      go false = ap (λ (k : ℕ). named_within k (undoing (rest bytes (i + 1)))) (or_zero_r m)
-
-  pub done_undone : i ≡ length bytes / 6 → named_within m (undoing (rest bytes i)) ≡ m
-  unfolding undoing named_within
-  done_undone e = rw (none bytes i e)

@@ -29,9 +29,9 @@ both_is reads alters zero e = either reads alters zero (not-false _ e)
     either true b false h = sym h
     either false b z h = clash h
 
-pub and-true : (b : Bool) → b && true ≡ b
-and-true true = refl
-and-true false = refl
+pub and_true : (b : Bool) → b && true ≡ b
+and_true true = refl
+and_true false = refl
 
 module _ (count : ℕ) (reads alters : Bool) (bytes : List ℕ) (i : ℕ) (allowed : Bool) where
   module _ (o : Operation) (h : i < length bytes / 6) (eo : o ≡ operation_at bytes (i * 6)) where

@@ -13,7 +13,7 @@ use Rattle.model.specs.Limits.{value_max, value_bytes}
 use Rattle.model.specs.Operation.{two}
 use Rattle.model.specs.Checks.{in_range, all_in_range}
 use Rattle.model.specs.Values.{four, signed32, value_at, values_from, values_in, held}
-use Rattle.model.proofs.CheckLaws.{and-true}
+use Rattle.model.proofs.CheckLaws.{and_true}
 use Rattle.judging.specs.Value.{value_of, values_held}
 
 -- ---- a value by its halves
@@ -88,7 +88,7 @@ module _ (bytes : List ℕ) where
 pub all_held : (vs : List ℤ) → all_in_range vs ≡ true → values_held vs ≡ held vs
 unfolding all_in_range values_held value_of held
 all_held [] e = refl
-all_held (v ∷ vs) e = let x = and-true (in_range v) (all_in_range vs) e in rw (x.0, all_held vs x.1)
+all_held (v ∷ vs) e = let x = and_true (in_range v) (all_in_range vs) e in rw (x.0, all_held vs x.1)
 
 pub length_held : (bytes : List ℕ) → length (values_held (values_in bytes)) ≡ length bytes / value_bytes
 unfolding values_from values_held

@@ -1,13 +1,12 @@
 // The tests on an array's operations that come before judging, and the semaphores that it names, in one walk.
-ghost use Rattle.std.specs.Prelude.{◌≡◌, cond, not, ◌&&◌, eqb};
-ghost use Rattle.model.specs.Operation.{operations_of, is_zero, has_bit};
-ghost use Rattle.model.specs.Pool.{undoing};
+ghost use Rattle.std.specs.Prelude.{◌≡◌, cond, not, eqb};
+ghost use Rattle.model.specs.Operation.{operations_of, is_zero};
 ghost use Rattle.model.specs.Checks.{check, number_too_high, permitted};
 ghost use Rattle.judging.specs.Named.{named_within};
 
 use crate::amount::is_zero;
 use crate::named::number_bit;
-use crate::operation::{operation_at, with_undo};
+use crate::operation::operation_at;
 use model::OPERATION_BYTES;
 
 // May one who reads and alters so do an operation of this amount?
@@ -17,26 +16,12 @@ fn may(amount: i16, reads: bool, alters: bool) -> bool
     if is_zero(amount) { reads } else { alters }
 }
 
-// The bit of an operation's semaphore, if it names it with SEM_UNDO and an amount other than 0.
-fn undo_bit(bit: u8, amount: i16, flags: u16) -> u8
-    ensures { result ≡ cond (has_bit flags 4096 && not (is_zero amount)) bit 0 }
-{
-    if with_undo(flags) {
-        if is_zero(amount) {
-            return 0;
-        }
-        return bit;
-    }
-    0
-}
-
 // What the checks of an array come to: the code of the first that applies, 0 if none does; then the semaphores that the array
-// names, and those that it names with SEM_UNDO and an amount other than 0, as masks.
+// names, as a mask.
 #[derive(Drop)]
 pub struct Checked {
     pub code: u8,
     pub names: u8,
-    pub undos: u8,
 }
 
 // The checks of the operations, in one walk: 27 for a number at or above the count, else 13 for one who may not do what they need.
@@ -44,27 +29,19 @@ pub struct Checked {
 pub fn check_array(count: u8, reads: bool, alters: bool, bytes: &[u8]) -> Checked
     ensures code_value { result.code ≡ check (number_too_high count (operations_of bytes.now)) 27 (check (not (permitted reads alters (operations_of bytes.now))) 13 0) }
     ensures names_value { result.names ≡ cond (eqb result.code 0) (named_within 0 (operations_of bytes.now)) 0 }
-    ensures undos_value { result.undos ≡ cond (eqb result.code 0) (named_within 0 (undoing (operations_of bytes.now))) 0 }
 {
     let both = reads & alters;
     let past = count as u16;
     let operations = bytes.len() / OPERATION_BYTES;
     let mut allowed = true;
     let mut names: u8 = 0;
-    let mut undos: u8 = 0;
     let mut i: usize = 0;
     while i < operations {
         let operation = operation_at(bytes, i * OPERATION_BYTES);
         if past <= operation.number {
-            return Checked {
-                code: 27,
-                names: 0,
-                undos: 0,
-            };
+            return Checked { code: 27, names: 0 };
         }
-        let bit = number_bit(operation.number);
-        names = names | bit;
-        undos = undos | undo_bit(bit, operation.amount, operation.flags);
+        names = names | number_bit(operation.number);
         if !both {
             allowed = allowed & may(operation.amount, reads, alters);
         }
@@ -74,13 +51,8 @@ pub fn check_array(count: u8, reads: bool, alters: bool, bytes: &[u8]) -> Checke
         Checked {
             code: 0,
             names: names,
-            undos: undos,
         }
     } else {
-        Checked {
-            code: 13,
-            names: 0,
-            undos: 0,
-        }
+        Checked { code: 13, names: 0 }
     }
 }

@@ -23,7 +23,6 @@ use Rattle.model.specs.Invariant.{Fits, Calm}
 use Rattle.model.proofs.JudgeLaws.{either}
 use Rattle.model.proofs.LookLaws.{look_fine, after_good}
 use Rattle.model.proofs.QueueLaws.{distinct_without}
-use Rattle.model.proofs.PoolLaws.{finish_used}
 use Rattle.model.proofs.WakingLaws.{finish_length, finish_wakings}
 use Rattle.model.proofs.Rules.{sum_to, Looked, plain_looked, quick_looked, sum_to_mono, sum_to_add, sum_to_7, sum_to_8, count_fewer, count_length, KeptByFinish, Tame, tame}
 
@@ -38,7 +37,6 @@ module _ {sets : List Set} where
         fits = all_without w.queue i c.fits;
         distinct = distinct_without w.queue i c.distinct;
         room = omega (arith, c.room, finish_length w i h, finish_wakings w i);
-        pool = omega (arith, c.pool, finish_used w i c.good c.fits h);
       }
 
   calm_kept : (slot : ℕ) → KeptByFinish slot (Calm sets)

@@ -13,13 +13,12 @@ use borrow.Author.Tests.{eqb-true, eqb-false, ltb-true, ltb-false, leb-true, leb
 use Rattle.model.specs.declared.Set.{Set}
 use Rattle.model.specs.declared.Operation.{Operation}
 use Rattle.model.specs.declared.Wait.{Wait}
-use Rattle.model.specs.Limits.{slots, semaphores, processes, value_max, pool_size, mode_max, time_max, operation_bytes, array_bytes, value_bytes}
+use Rattle.model.specs.Limits.{slots, semaphores, processes, value_max, mode_max, time_max, operation_bytes, array_bytes, value_bytes}
 use Rattle.model.specs.State.{State, Sleeper}
 use Rattle.model.specs.Operation.{operation_at, operations_from, operations_of}
-use Rattle.model.specs.Checks.{check, or_else, live, slot_of, names_set, no_process, number_too_high, free_from, free_slot, check_caller, check_access, check_create, check_call, used_with, check_operate, check_query, in_range, check_set_value, all_in_range, check_set_all, check_remove, check_process, check_clock}
+use Rattle.model.specs.Checks.{check, or_else, live, slot_of, names_set, no_process, number_too_high, free_from, free_slot, check_caller, check_access, check_create, check_operate, check_query, in_range, check_set_value, all_in_range, check_set_all, check_remove, check_process, check_clock}
 use Rattle.model.specs.Permission.{reading, altering}
 use Rattle.model.specs.Values.{value_at, values_from, values_in, held}
-use Rattle.model.specs.Pool.{claimed, in_use, entries_used}
 use Rattle.model.specs.Events.{call}
 use Rattle.model.specs.Runs.{All, none, also}
 use Rattle.model.proofs.Lists.{first}
@@ -28,13 +27,13 @@ use Rattle.model.proofs.QueueLaws.{awake, fewer_awake}
 
 -- ---- tests
 
-pub or-false : (x y : Bool) → x || y ≡ false → (x ≡ false) × (y ≡ false)
-or-false false y e = (refl, e)
-or-false true y e = (e, let z : ◌≡◌ {A = ℕ} 0 1 = cc in absurd (omega arith))
+pub or_false : (x y : Bool) → x || y ≡ false → (x ≡ false) × (y ≡ false)
+or_false false y e = (refl, e)
+or_false true y e = (e, let z : ◌≡◌ {A = ℕ} 0 1 = cc in absurd (omega arith))
 
-pub and-true : (x y : Bool) → x && y ≡ true → (x ≡ true) × (y ≡ true)
-and-true true y e = (refl, e)
-and-true false y e = (e, let z : ◌≡◌ {A = ℕ} 0 1 = cc in absurd (omega arith))
+pub and_true : (x y : Bool) → x && y ≡ true → (x ≡ true) × (y ≡ true)
+and_true true y e = (refl, e)
+and_true false y e = (e, let z : ◌≡◌ {A = ℕ} 0 1 = cc in absurd (omega arith))
 
 -- a check that does not apply leaves the later ones
 pub passes : (applies : Bool) (code later : ℕ) → 0 < code → check applies code later ≡ 0 → (applies ≡ false) × (later ≡ 0)
@@ -53,7 +52,7 @@ nonzero n e = omega (arith, eqb-false n 0 e)
 
 pub process_range : (p : ℕ) → no_process p ≡ false → (1 ≤ p) × (p ≤ processes)
 unfolding no_process
-process_range p e = let x : (eqb p 0 ≡ false) × (ltb processes p ≡ false) = or-false (eqb p 0) (ltb processes p) e in
+process_range p e = let x : (eqb p 0 ≡ false) × (ltb processes p ≡ false) = or_false (eqb p 0) (ltb processes p) e in
     (nonzero p x.0, ltb-false processes p x.1)
 
 -- a caller is a process, and awake
@@ -80,7 +79,7 @@ pub record Named (sets : List Set) (i : ℤ) : Type 0 where
 
 pub names_live : (sets : List Set) (i : ℤ) → names_set sets i ≡ true → Named sets i
 unfolding names_set slot_of
-names_live sets (pos i) e = record { slot = mod-lt i (zero-lt-suc 3); some = ltb-true 0 _ (and-true _ _ e).0 }
+names_live sets (pos i) e = record { slot = mod-lt i (zero-lt-suc 3); some = ltb-true 0 _ (and_true _ _ e).0 }
 names_live sets (negsuc i) e = let z : ◌≡◌ {A = ℕ} 0 1 = cc in absurd (omega arith)
 
 -- a caller that names a live set
@@ -99,7 +98,7 @@ pub numbers_below : (count : ℕ) (os : List Operation) → number_too_high coun
 unfolding number_too_high
 numbers_below count [] e = none
 numbers_below count (o ∷ os) e =
-    let x : (leb count o.number ≡ false) × (number_too_high count os ≡ false) = or-false (leb count o.number) (number_too_high count os) e in
+    let x : (leb count o.number ≡ false) × (number_too_high count os ≡ false) = or_false (leb count o.number) (number_too_high count os) e in
     also (leb-false count o.number x.0) (numbers_below count os x.1)
 
 -- a sleeper's array has an operation: what holds of all holds of its first
@@ -140,8 +139,8 @@ unfolding check_create
 create_passes s p count mode e =
     let w = passes_both (check_caller s p) _ e in
     let a = passes _ 22 _ (zero-lt-suc _) w.1 in
-    let o = or-false (eqb count 0 || ltb semaphores count) (ltb mode_max mode) a.0 in
-    let b = or-false (eqb count 0) (ltb semaphores count) o.0 in
+    let o = or_false (eqb count 0 || ltb semaphores count) (ltb mode_max mode) a.0 in
+    let b = or_false (eqb count 0) (ltb semaphores count) o.0 in
     let c = passes (eqb (free_slot s.sets) slots) 28 0 (zero-lt-suc _) a.1 in
     let f = free_from_lem s.sets 0 slots in
     let lt : free_slot s.sets < slots = omega (arith, f.0, eqb-false (free_slot s.sets) slots c.0) in
@@ -159,16 +158,14 @@ pub record Operable (s : State) (p : ℕ) (i : ℤ) (wait : Wait) (bytes : List 
   pub caller : Awake s p
   pub fits : Fits s.sets (call s.time p i wait bytes)
   pub others : All (Other (call s.time p i wait bytes)) s.queue
-  pub pool : entries_used s.table (call s.time p i wait bytes ∷ s.queue) ≤ pool_size
 
 pub operate_passes : (s : State) (p : ℕ) (i : ℤ) (wait : Wait) (bytes : List ℕ) → check_operate s p i bytes ≡ 0 → Operable s p i wait bytes
-unfolding check_operate check_call entries_used in_use claimed
+unfolding check_operate
 operate_passes s p i wait bytes e =
-    let o = passes_both (check_call s p i bytes) _ e in
-    let a = passes_both (check_caller s p) _ o.0 in
+    let a = passes_both (check_caller s p) _ e in
     let w : Awake s p = caller_passes s p a.0 in
     let c = passes _ 22 _ (zero-lt-suc _) a.1 in
-    let d = or-false (eqb (length bytes) 0) _ c.0 in
+    let d = or_false (eqb (length bytes) 0) _ c.0 in
     let f = passes _ 7 _ (zero-lt-suc _) c.1 in
     let g = passes _ 22 _ (zero-lt-suc _) f.1 in
     let h = passes _ 27 _ (zero-lt-suc _) g.1 in
@@ -185,7 +182,6 @@ operate_passes s p i wait bytes e =
         numbers = numbers_below (count_at s.sets (slot_of i)) (operations_of bytes) h.0;
       };
       others = w.others;
-      pool = ltb-false pool_size (used_with s p i bytes) (passes _ 28 0 (zero-lt-suc _) o.1).0;
     }
 
 -- ---- set value and query
@@ -238,7 +234,7 @@ length_values bytes at (suc n) = ap suc (length_values bytes (at + value_bytes) 
 all_in_range_lem : (vs : List ℤ) → all_in_range vs ≡ true → All (λ (v : ℕ). v ≤ value_max) (held vs)
 unfolding all_in_range held
 all_in_range_lem [] e = none
-all_in_range_lem (v ∷ vs) e = let x = and-true (in_range v) (all_in_range vs) e in also (in_range_lem v x.0) (all_in_range_lem vs x.1)
+all_in_range_lem (v ∷ vs) e = let x = and_true (in_range v) (all_in_range vs) e in also (in_range_lem v x.0) (all_in_range_lem vs x.1)
 
 wholes : (size n : ℕ) → size ≡ value_bytes * n → size / value_bytes ≡ n
 wholes size n e = omega arith
@@ -285,5 +281,5 @@ pub clock_passes : (s : State) (now : ℕ) → check_clock s now ≡ 0 → (s.ti
 unfolding check_clock
 clock_passes s now e =
     let a = passes _ 22 0 (zero-lt-suc _) e in
-    let b = or-false (ltb now s.time) (ltb time_max now) a.0 in
+    let b = or_false (ltb now s.time) (ltb time_max now) a.0 in
     (ltb-false now s.time b.0, ltb-false time_max now b.1)

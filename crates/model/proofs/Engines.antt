@@ -18,7 +18,6 @@ use Rattle.model.specs.Runs.{Run, run, Reached, start, came, none, Pairwise, end
 use Rattle.model.specs.Invariant.{Fits, Invariant, alone, count_at}
 use Rattle.model.proofs.Lists.{all_map, all_replicate}
 use Rattle.model.proofs.QueueLaws.{keep_test}
-use Rattle.model.proofs.PoolLaws.{fresh_used}
 use Rattle.model.proofs.CleanLaws.{fresh_clean}
 use Rattle.model.proofs.CheckLaws.{alive, Creatable, create_passes, remove_passes, clock_passes}
 use Rattle.model.proofs.Agree.{slot_other}
@@ -73,7 +72,6 @@ act_as_agrees s p user group i =
       stuck = i.stuck;
       time = i.time;
       in_time = i.in_time;
-      pool = i.pool;
     }))
 
 -- whoever is left is not due
@@ -94,7 +92,6 @@ clock_agrees s now i =
       stuck = k.stuck;
       time = (clock_passes s now e).1;
       in_time = all_map (λ q n. not-true _ n) (keep_test (not_due now) s.queue);
-      pool = k.pool;
     }))
 
 -- ---- any event
@@ -142,7 +139,6 @@ fresh_invariant =
       stuck = none;
       time = omega arith;
       in_time = none;
-      pool = fresh_used;
     }
 
 pub reached : {s : State} → Reached s → Invariant s

@@ -18,7 +18,6 @@ use Rattle.model.specs.Invariant.{Vacant, Clean, Fits, Invariant, Calm, count_at
 use Rattle.model.proofs.Lists.{all_zip, all_zip3, all_set}
 use Rattle.model.proofs.QueueLaws.{keep_all, keep_distinct}
 use Rattle.model.proofs.TableLaws.{cleared_good, cleared_stuck}
-use Rattle.model.proofs.PoolLaws.{keep_used, cleared_used}
 use Rattle.model.proofs.CleanLaws.{cleared_clean}
 
 -- one event in the quick and in the plain engine: what is claimed of it, the same state, and the invariant of that state
@@ -43,7 +42,7 @@ woken_agrees s a b i e le most c clean stuck in_time =
     record {
       alike = record { answer = refl; wakings = ap (λ (w : World). w.wakings) e; fewer = le; bounded = most };
       state = ap (λ (w : World). record { sets = s.sets; callers = s.callers; table = w.table; queue = w.queue; time = s.time }) e;
-      kept = record { sets = i.sets; counts = i.counts; vacant = i.vacant; good = c.good; clean = clean; fits = c.fits; distinct = c.distinct; stuck = stuck; time = i.time; in_time = in_time; pool = c.pool };
+      kept = record { sets = i.sets; counts = i.counts; vacant = i.vacant; good = c.good; clean = clean; fits = c.fits; distinct = c.distinct; stuck = stuck; time = i.time; in_time = in_time };
     }
 
 -- ---- create and remove put a set into a slot
@@ -69,7 +68,6 @@ cleared_kept s slot k i hs hk hv ne =
       stuck = all_zip3 (λ q f n e. cleared_stuck i.counts s.table q i.good f slot hs n e) i.fits ne i.stuck;
       time = i.time;
       in_time = i.in_time;
-      pool = omega (arith, i.pool, cleared_used s.table slot s.queue i.good hs);
     }
 
 -- taking sleepers out of the queue keeps the invariant
@@ -86,5 +84,4 @@ keep_kept s test i =
       stuck = keep_all test s.queue i.stuck;
       time = i.time;
       in_time = keep_all test s.queue i.in_time;
-      pool = omega (arith, i.pool, keep_used s.table s.queue test);
     }

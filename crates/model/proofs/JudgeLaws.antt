@@ -94,27 +94,22 @@ next_ranged a amount z e = go (lt_z (a -ℤ amount) (negsuc (value_max - 1))) re
     go false h false k f = let r : a -ℤ amount ≡ z = cc in rw r at (within (a -ℤ amount) h k)
 
 -- what an operation leaves: the copies as they were, with its value, or with its value and its adjustment
-pub step_leaves : (P : Copies → Type 0) (c : Copies) (o : Operation) (i : ℕ) → P c
+step_leaves : (P : Copies → Type 0) (c : Copies) (o : Operation) (i : ℕ) → P c
     → ((v : ℕ) → next_value (get_or c.values o.number 0) o.amount ≡ next.To v → P (with_value c o.number v))
-    → ((v : ℕ) (a : ℤ) → P (with_value c o.number v) → with_undo o ≡ true → next_adjustment (get_or c.adjustments o.number (pos 0)) o.amount ≡ undo.To a
+    → ((v : ℕ) (a : ℤ) → P (with_value c o.number v) → next_adjustment (get_or c.adjustments o.number (pos 0)) o.amount ≡ undo.To a
     → P (with_adjustment (with_value c o.number v) o.number a))
     → P (step c o i).copies
 unfolding step
 step_leaves P c o i h value adjustment = go (next_value (get_or c.values o.number 0) o.amount) refl
   where
-    adjusted : (v : ℕ) → P (with_value c o.number v) → with_undo o ≡ true → (y : Undo) → next_adjustment (get_or c.adjustments o.number (pos 0)) o.amount ≡ y → P (undone c o i v y).copies
-    adjusted v k u undo.Out e = h
-    adjusted v k u (undo.To a) e = adjustment v a k u e
-
-    taken : (v : ℕ) → P (with_value c o.number v) → (b : Bool) → with_undo o ≡ b
-        → P (cond b (undone c o i v (next_adjustment (get_or c.adjustments o.number (pos 0)) o.amount)) (judged Done i (with_value c o.number v))).copies
-    taken v k true u = adjusted v k u _ refl
-    taken v k false u = k
+    adjusted : (v : ℕ) → P (with_value c o.number v) → (y : Undo) → next_adjustment (get_or c.adjustments o.number (pos 0)) o.amount ≡ y → P (undone c o i v y).copies
+    adjusted v k undo.Out e = h
+    adjusted v k (undo.To a) e = adjustment v a k e
 
     go : (x : Next) → next_value (get_or c.values o.number 0) o.amount ≡ x → P (valued c o i x).copies
     go next.Over e = h
     go next.Stop e = either (λ (j : Judged). P j.copies) (no_wait o) _ _ h h
-    go (next.To v) e = taken v (value v e) (with_undo o) refl
+    go (next.To v) e = either (λ (j : Judged). P j.copies) (with_undo o) _ _ (adjusted v (value v e) _ refl) (value v e)
 
 -- what goes on leaves the copies of the rest, or those that the array began with
 go_on_leaves : (P : Copies → Type 0) (start : Copies) (i : ℕ) (x : Outcome) (more : Judged) → P start → P more.copies → P (go_on start i x more).copies
@@ -125,7 +120,7 @@ go_on_leaves P start i Again more h k = h
 go_on_leaves P start i Range more h k = h
 
 -- what each operation keeps, judging keeps
-pub judge_leaves : (P : Copies → Type 0) (start : Copies) (os : List Operation) (c : Copies) (i : ℕ) → P start → P c
+judge_leaves : (P : Copies → Type 0) (start : Copies) (os : List Operation) (c : Copies) (i : ℕ) → P start → P c
     → All (λ (o : Operation). (c : Copies) (i : ℕ) → P c → P (step c o i).copies) os → P (judge_from start os c i).copies
 unfolding judge_from
 judge_leaves P start [] c i h k each = k
@@ -139,7 +134,7 @@ step_fine c o i f =
       adjustments = f.adjustments;
       small = all_set c.values o.number v f.small (next_small _ o.amount v (all_get_d (λ (v : ℕ). v ≤ value_max) c.values o.number 0 f.small (omega arith)) e);
       ranged = f.ranged;
-    }) (λ v a g u e. record {
+    }) (λ v a g e. record {
       values = g.values;
       adjustments = length-set c.adjustments o.number a ∙ f.adjustments;
       small = g.small;
@@ -164,7 +159,7 @@ judge_idle n start os c i h k others = judge_leaves (Idle n) start os c i h k (a
         step_leaves (Idle n) c o i z (λ v e. record {
           value = get_or-set_other c.values o.number n v 0 (λ x. ne (sym x)) ∙ z.value;
           adjustment = z.adjustment;
-        }) (λ v a y u e. record {
+        }) (λ v a y e. record {
           value = y.value;
           adjustment = get_or-set_other c.adjustments o.number n a (pos 0) (λ x. ne (sym x)) ∙ z.adjustment;
         })

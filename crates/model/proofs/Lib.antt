@@ -8,7 +8,6 @@ pub mod JudgeLaws
 pub mod LookLaws
 pub mod QueueLaws
 pub mod TableLaws
-pub mod PoolLaws
 pub mod PermissionLaws
 pub mod CheckLaws
 pub mod ClockLaws

@@ -7,11 +7,10 @@ use Rattle.model.specs.Look.{values_of, adjustments_of, look, lasts_after, appli
 use Rattle.model.specs.Marks.{unmark, marked, named_by, differing, every_number, mine, mask_of}
 use Rattle.model.specs.Waking.{without, finish, plain_round, quick_round, plain, quick, waker}
 use Rattle.model.specs.Counts.{stop, stops_at, for_increase, for_zero, count_of}
-use Rattle.model.specs.Checks.{identifier_of, slot_of, names_set, no_process, asleep, number_too_high, permitted, free_from, check_caller, check_access, check_create, check_call, check_operate, check_query, in_range, check_set_value, all_in_range, check_set_all, check_remove, check_process, check_clock}
+use Rattle.model.specs.Checks.{identifier_of, slot_of, names_set, no_process, asleep, number_too_high, permitted, free_from, check_caller, check_access, check_create, check_operate, check_query, in_range, check_set_value, all_in_range, check_set_all, check_remove, check_process, check_clock}
 use Rattle.model.specs.Permission.{class_bits, permits, owns}
 use Rattle.model.specs.Clock.{over_by, at_once}
 use Rattle.model.specs.Values.{signed32, values_from, held}
-use Rattle.model.specs.Pool.{claims, claimed, in_use, how_many, entries_used}
 use Rattle.model.specs.State.{clear_rows, cleared}
 use Rattle.model.specs.Events.{clear_number, assigned, cut, undo_all, exited, keep, ended_with, do_create, would_sleep, operated, do_operate, do_set_value, do_remove, do_clock, treat, treat_from, touched_from, do_exit, seen_at, do_query, assigned_all, do_set_all, read_at, read_from, do_read_all, do_act_as, event}
 use Rattle.model.specs.Runs.{run, All, none, also}
@@ -22,7 +21,7 @@ both r p q Plain = p
 both r p q Quick = q
 
 pub situations : All Holds table
-unfolding run event do_create would_sleep operated do_operate do_set_value do_remove do_clock over_by at_once check_clock treat treat_from touched_from do_exit seen_at do_query assigned_all do_set_all read_at read_from do_read_all do_act_as signed32 values_from held all_in_range check_set_all every_number stop stops_at for_increase for_zero count_of identifier_of slot_of names_set no_process asleep number_too_high permitted free_from class_bits permits owns check_caller check_access check_create check_call check_operate claims claimed in_use how_many entries_used check_query in_range check_set_value check_remove check_process clear_rows cleared clear_number assigned cut undo_all exited keep ended_with waker plain quick plain_round quick_round finish without look lasts_after applied after values_of adjustments_of judge_from go_on step next_value next_adjustment code_of decided_at finishes operations_from signed16 is_zero is_negative unmark marked named_by differing mine mask_of
+unfolding run event do_create would_sleep operated do_operate do_set_value do_remove do_clock over_by at_once check_clock treat treat_from touched_from do_exit seen_at do_query assigned_all do_set_all read_at read_from do_read_all do_act_as signed32 values_from held all_in_range check_set_all every_number stop stops_at for_increase for_zero count_of identifier_of slot_of names_set no_process asleep number_too_high permitted free_from class_bits permits owns check_caller check_access check_create check_operate check_query in_range check_set_value check_remove check_process clear_rows cleared clear_number assigned cut undo_all exited keep ended_with waker plain quick plain_round quick_round finish without look lasts_after applied after values_of adjustments_of judge_from go_on step next_value next_adjustment code_of decided_at finishes operations_from signed16 is_zero is_negative unmark marked named_by differing mine mask_of
 situations =
     also (both situation1 refl refl)
     (also (both situation2 refl refl)

@@ -16,7 +16,7 @@ use Rattle.model.specs.Marks.{bit_of, mine, marked, unmark, concerned, mask_of, 
 use Rattle.model.specs.Waking.{World, Round, nobody, finished, could_finish, without, finish, both, passed, quick_round, remark, marks_after, marks_left}
 use Rattle.model.proofs.Bits.{bit, bit_lt, bit_zero, bit_or_other, bit_xor_other, bit_xor_same}
 use Rattle.model.proofs.MarkLaws.{marked_bit}
-use Rattle.model.proofs.CheckLaws.{and-true}
+use Rattle.model.proofs.CheckLaws.{and_true}
 use Rattle.model.proofs.WakingLaws.{finish_length}
 
 -- ---- a mask with no bit on is 0
@@ -67,7 +67,7 @@ module _ (slot : ℕ) where
       go false e (inl on) = inl on
 
   touched_owned : (touched m : ℕ) (q : List Sleeper) → Owned m q → Owned (mark_touched slot touched m q) q
-  touched_owned touched m q h k on = go (mask_owned (concerned slot touched) (λ s e. (and-true (mine slot s) _ e).0) m q k on)
+  touched_owned touched m q h k on = go (mask_owned (concerned slot touched) (λ s e. (and_true (mine slot s) _ e).0) m q k on)
     where
       go : (bit m k ≡ 1) ⊎ Sleeps k q → Sleeps k q
       go (inl on) = h k on

@@ -18,7 +18,7 @@ use Rattle.model.specs.declared.Copies.{Copies}
 use Rattle.model.specs.declared.Judged.{Judged}
 use Rattle.model.specs.declared.Wait.{Wait}
 use Rattle.model.specs.declared.Engine.TheVariants.{Plain, Quick}
-use Rattle.model.specs.Limits.{slots, semaphores, processes, pool_size}
+use Rattle.model.specs.Limits.{slots, semaphores, processes}
 use Rattle.model.specs.State.{Table, Sleeper, State}
 use Rattle.model.specs.Operation.{operations_of, has_bit}
 use Rattle.model.specs.Judge.{code_of, decider_of, finishes}
@@ -27,7 +27,6 @@ use Rattle.model.specs.Marks.{mine, named, differing, every_number}
 use Rattle.model.specs.Waking.{World, Ended, could_finish, waker}
 use Rattle.model.specs.Clock.{at_once}
 use Rattle.model.specs.Values.{values_in, held}
-use Rattle.model.specs.Pool.{entries_used}
 use Rattle.model.specs.Checks.{live, slot_of, check_operate, check_set_value, check_set_all, check_process}
 use Rattle.model.specs.Events.{Result, answer_at, refused_at, woken_as, world, would_sleep, operated, call, do_operate, assigned, do_set_value, assigned_all, do_set_all, exited, keep, treat, treat_from, touched_from, do_exit, not_of}
 use Rattle.model.specs.Runs.{All, none, also, InTime}
@@ -38,7 +37,6 @@ use Rattle.model.proofs.JudgeLaws.{Fine}
 use Rattle.model.proofs.LookLaws.{count_fits, numbers_fit, look_fine, applied_good, applied_undo, applied_value, still_stuck, unconcerned_stuck}
 use Rattle.model.proofs.QueueLaws.{few, fewer_awake, distinct_snoc, keep_test}
 use Rattle.model.proofs.TableLaws.{assigned_good, assigned_stuck, unnamed_other, assigned_all_good, assigned_all_stuck, exited_good, exited_stuck}
-use Rattle.model.proofs.PoolLaws.{snoc_used, applied_used, assigned_used, assigned_all_used, exited_used}
 use Rattle.model.proofs.CleanLaws.{looked_clean, assigned_clean, assigned_all_clean, exited_clean, wake_clean}
 use Rattle.model.proofs.CheckLaws.{Awake, awake_few, alive, at_first, Operable, operate_passes, Assignable, set_value_passes, AllAssignable, set_all_passes, process_passes}
 use Rattle.model.proofs.ClockLaws.{begun_now}
@@ -62,9 +60,9 @@ together slot Meant t q r a m = go (mine slot q) refl
     go false e = a e (m (slot_other slot q e))
 
 -- the table has become t, by a caller's event: the sleepers of other sets are still stuck, and so are those of the set who name no touched semaphore
-treated : (s : State) (p slot touched : ℕ) (t : Table) (i : Invariant s) → Awake s p → Good t → Clean s.sets t → entries_used t s.queue ≤ pool_size → All (Aside slot Anyone t) s.queue → OthersStuck i.counts slot touched (world t s.queue)
+treated : (s : State) (p slot touched : ℕ) (t : Table) (i : Invariant s) → Awake s p → Good t → Clean s.sets t → All (Aside slot Anyone t) s.queue → OthersStuck i.counts slot touched (world t s.queue)
     → Agrees (woken_as s (waker Quick slot touched (world t s.queue) 0)) (woken_as s (waker Plain slot touched (world t s.queue) 0))
-treated s p slot touched t i a g clean pool aside ready =
+treated s p slot touched t i a g clean aside ready =
     woken_agrees s (waker Quick slot touched w 0) (waker Plain slot touched w 0) i ag.world ag.looks
     (omega (arith, ((tame Plain).looked slot touched w 0).most, looks_28 (mine slot) s.queue (awake_few a i)))
     (wake_calm Quick slot touched w 0 calm) (wake_clean i.counts Quick slot touched w 0 calm clean)
@@ -75,7 +73,7 @@ treated s p slot touched t i a g clean pool aside ready =
     w = world t s.queue
 
     calm : Calm s.sets w
-    calm = record { good = g; fits = i.fits; distinct = i.distinct; room = omega (arith, few s i); pool = pool }
+    calm = record { good = g; fits = i.fits; distinct = i.distinct; room = omega (arith, few s i) }
 
     ag : WakersAgree i.counts slot (waker Quick slot touched w 0) (waker Plain slot touched w 0)
     ag = wakers_agree i.counts slot touched w 0 0 (omega arith) calm ready
@@ -83,10 +81,10 @@ treated s p slot touched t i a g clean pool aside ready =
 -- ---- operate
 
 -- a call that would sleep, and begins now
-would_sleep_agrees : (s : State) (c : Sleeper) (at : Position) → Invariant s → Fits s.sets c → All (Other c) s.queue → could_finish s.table c ≡ false → c.start ≡ s.time → entries_used s.table (c ∷ s.queue) ≤ pool_size
+would_sleep_agrees : (s : State) (c : Sleeper) (at : Position) → Invariant s → Fits s.sets c → All (Other c) s.queue → could_finish s.table c ≡ false → c.start ≡ s.time
     → Agrees (would_sleep s c at) (would_sleep s c at)
 unfolding would_sleep
-would_sleep_agrees s c at i f others stuck begun pool = go (at_once c.wait) refl
+would_sleep_agrees s c at i f others stuck begun = go (at_once c.wait) refl
   where
     asleep : Result
     asleep = record { answer = answer_at (code_of Sleep) at; state = record { sets = s.sets; callers = s.callers; table = s.table; queue = s.queue ++ c ∷ []; time = s.time }; looks = 0; wakings = [] }
@@ -106,14 +104,13 @@ would_sleep_agrees s c at i f others stuck begun pool = go (at_once c.wait) refl
           stuck = all_append s.queue (c ∷ []) i.stuck (also stuck none);
           time = i.time;
           in_time = all_append s.queue (c ∷ []) i.in_time (also (rw begun (begun_now s.time c.wait e)) none);
-          pool = omega (arith, pool, snoc_used s.table s.queue c);
         })
 
 operated_agrees : (s : State) (c : Sleeper) (x : Outcome) (at : Position) (copies : Copies) → Invariant s → Awake s c.process → Fits s.sets c → All (Other c) s.queue → Fine copies
-    → Clean s.sets (applied s.table c copies) → (look s.table c).outcome ≡ x → c.start ≡ s.time → entries_used s.table (c ∷ s.queue) ≤ pool_size → (look s.table c).copies ≡ copies → Agrees (operated (waker Quick) s c x at copies) (operated (waker Plain) s c x at copies)
+    → Clean s.sets (applied s.table c copies) → (look s.table c).outcome ≡ x → c.start ≡ s.time → Agrees (operated (waker Quick) s c x at copies) (operated (waker Plain) s c x at copies)
 unfolding operated finishes
-operated_agrees s c Done at copies i a f others k clean e begun pool same =
-    treated s c.process c.slot (differing 0 0 (values_of s.table c.slot) (values_of (applied s.table c copies) c.slot)) t i a g clean fewer
+operated_agrees s c Done at copies i a f others k clean e begun =
+    treated s c.process c.slot (differing 0 0 (values_of s.table c.slot) (values_of (applied s.table c copies) c.slot)) t i a g clean
     (all_zip3 aside i.fits others i.stuck) (all_zip3 ready i.fits others i.stuck)
   where
     t : Table
@@ -121,9 +118,6 @@ operated_agrees s c Done at copies i a f others k clean e begun pool same =
 
     g : Good t
     g = applied_good s.table c i.good f copies k
-
-    fewer : entries_used t s.queue ≤ pool_size
-    fewer = rw (← same) (omega (arith, pool, applied_used s.table c i.good f s.queue))
 
     aside : (q : Sleeper) → Fits s.sets q → Other c q → could_finish s.table q ≡ false → Aside c.slot Anyone t q
     aside q fq o st e m =
@@ -135,9 +129,9 @@ operated_agrees s c Done at copies i a f others k clean e begun pool same =
         → has_bit (named q) (differing 0 0 (values_of s.table c.slot) (values_of t c.slot)) ≡ false → could_finish t q ≡ false
     ready q fq o st e un =
         unconcerned_stuck i.counts s.table t q i.good g fq (rw (slot_mine c.slot q e) un) (applied_undo s.table c q i.good f fq copies k o) st
-operated_agrees s c Sleep at copies i a f others k clean e begun pool same = would_sleep_agrees s c at i f others (ap finishes e) begun pool
-operated_agrees s c Again at copies i a f others k clean e begun pool same = quiet _ refl i
-operated_agrees s c Range at copies i a f others k clean e begun pool same = quiet _ refl i
+operated_agrees s c Sleep at copies i a f others k clean e begun = would_sleep_agrees s c at i f others (ap finishes e) begun
+operated_agrees s c Again at copies i a f others k clean e begun = quiet _ refl i
+operated_agrees s c Range at copies i a f others k clean e begun = quiet _ refl i
 
 pub operate_agrees : (s : State) (p : ℕ) (i : ℤ) (wait : Wait) (bytes : List ℕ) → Invariant s → Agrees (do_operate (waker Quick) s p i wait bytes) (do_operate (waker Plain) s p i wait bytes)
 unfolding do_operate
@@ -152,7 +146,7 @@ operate_agrees s p j wait bytes i = checked_agrees (check_operate s p j bytes) s
     does : Operable s p j wait bytes → Agrees (operated (waker Quick) s c judged.outcome (decider_of judged) judged.copies) (operated (waker Plain) s c judged.outcome (decider_of judged) judged.copies)
     does o =
         operated_agrees s c judged.outcome (decider_of judged) judged.copies i o.caller o.fits o.others (look_fine s.table c i.good o.fits)
-        (looked_clean i.counts s.table c i.good o.fits i.clean) refl refl o.pool refl
+        (looked_clean i.counts s.table c i.good o.fits i.clean) refl refl
 
 -- ---- set value
 
@@ -173,7 +167,7 @@ set_value_agrees s p j n v i = checked_agrees (check_set_value s p j n v) s _ _ 
     does : Assignable s p j n v → Agrees (woken_as s (waker Quick (slot_of j) (2 ^ n) (world t s.queue) 0)) (woken_as s (waker Plain (slot_of j) (2 ^ n) (world t s.queue) 0))
     does a =
         treated s p (slot_of j) (2 ^ n) t i a.numbered.caller (assigned_good s.table (slot_of j) n (nat_abs v) i.good a.value)
-        (assigned_clean s.sets s.table (slot_of j) n (nat_abs v) a.numbered.slot a.numbered.number (fits a) i.clean) (omega (arith, i.pool, assigned_used s.table (slot_of j) n (nat_abs v) s.queue))
+        (assigned_clean s.sets s.table (slot_of j) n (nat_abs v) a.numbered.slot a.numbered.number (fits a) i.clean)
         (all_zip (λ q f st e m. stuck a q f (all_map (λ o h z. absurd (slot_other (slot_of j) q e z)) (numbers_fit i.counts q f)) st) i.fits i.stuck)
         (all_zip (λ q f st e un. stuck a q f (all_map (λ o h z. h) (unnamed_other q n un)) st) i.fits i.stuck)
 
@@ -203,7 +197,7 @@ set_all_agrees s p j bytes i = checked_agrees (check_set_all s p j bytes) s _ _ 
     does a =
         let few : length vs ≤ semaphores = omega (arith, a.count, count_fits i.counts (slot_of j)) in
         treated s p slot (every_number (count_at s.sets slot)) t i a.caller (assigned_all_good s.table slot vs i.good a.named.slot a.values)
-        (assigned_all_clean s.sets s.table slot vs i.good a.named.slot a.count few i.clean) (omega (arith, i.pool, assigned_all_used s.table slot vs s.queue i.good a.named.slot))
+        (assigned_all_clean s.sets s.table slot vs i.good a.named.slot a.count few i.clean)
         (all_zip (λ q f st e m. assigned_all_stuck i.counts s.table q i.good f slot a.named.slot (slot_other slot q e) vs few a.values st) i.fits i.stuck)
         (all_map (λ q f e un. absurd (every_concerned s.sets slot q f e un)) i.fits)
 
@@ -327,7 +321,7 @@ exit_agrees s p i = checked_agrees (check_process p) s _ _ i (λ e. does (proces
         record {
           world = refl;
           looks = omega arith;
-          calm = record { good = exited_good s.table p i.good r.0 r.1; fits = k.fits; distinct = k.distinct; room = omega (arith, few left k); pool = omega (arith, k.pool, exited_used s.table p left.queue i.good r.0 r.1) };
+          calm = record { good = exited_good s.table p i.good r.0 r.1; fits = k.fits; distinct = k.distinct; room = omega (arith, few left k) };
           clean = exited_clean s.sets s.table p i.good r.0 r.1 i.clean;
           done = all_zip3 (first_done r) k.fits k.stuck (keep_test (not_of p) s.queue);
         }

@@ -2,13 +2,11 @@
 use Rattle.std.specs.Prelude.{ℕ, zero, suc, ◌+◌, ◌*◌, ◌/◌, ◌%◌, Bool, true, false, cond, not, ◌||◌, ◌&&◌, List, [], ◌∷◌, eqb, ltb, leb, length, get_or, ℤ, pos, negsuc}
 use Rattle.model.specs.declared.Set.{Set}
 use Rattle.model.specs.declared.Operation.{Operation}
-use Rattle.model.specs.declared.Wait.TheVariants.{Endless}
-use Rattle.model.specs.Limits.{slots, semaphores, processes, operations, value_max, pool_size, mode_max, time_max, operation_bytes, value_bytes}
+use Rattle.model.specs.Limits.{slots, semaphores, processes, operations, value_max, mode_max, time_max, operation_bytes, value_bytes}
 use Rattle.model.specs.State.{State, Sleeper, caller_of, no_set}
 use Rattle.model.specs.Operation.{operations_of, is_zero}
 use Rattle.model.specs.Permission.{reading, altering, permits, owns}
 use Rattle.model.specs.Values.{values_in}
-use Rattle.model.specs.Pool.{entries_used}
 
 abbrev pub check : Bool → ℕ → ℕ → ℕ
 check applies code later = cond applies code later
@@ -90,26 +88,14 @@ check_create s p count mode =
     (check ((eqb count 0 || ltb semaphores count) || ltb mode_max mode) 22
     (check (eqb (free_slot s.sets) slots) 28 0))
 
--- the checks of an operate, but for the pool
-unfoldable pub check_call : State → ℕ → ℤ → List ℕ → ℕ
-check_call s p i bytes =
+unfoldable pub check_operate : State → ℕ → ℤ → List ℕ → ℕ
+check_operate s p i bytes =
     or_else (check_caller s p)
     (check (eqb (length bytes) 0 || not (eqb (length bytes % operation_bytes) 0)) 22
     (check (ltb (operation_bytes * operations) (length bytes)) 7
     (check (not (names_set s.sets i)) 22
     (check (number_too_high (set_of s i).count (operations_of bytes)) 27
     (check (not (permitted (may s p i reading) (may s p i altering) (operations_of bytes))) 13 0)))))
-
--- "An operate that would make more, its own such operations counted whether or not they would go through": how many entries would be
--- in use if it slept
-abbrev pub used_with : State → ℕ → ℤ → List ℕ → ℕ
-used_with s p i bytes = entries_used s.table (record { process = p; slot = slot_of i; array = bytes; start = s.time; wait = Endless } ∷ s.queue)
-
--- .. "is refused with 28. The test comes after permission and before judging."
-unfoldable pub check_operate : State → ℕ → ℤ → List ℕ → ℕ
-check_operate s p i bytes =
-    or_else (check_call s p i bytes)
-    (check (ltb pool_size (used_with s p i bytes)) 28 0)
 
 -- query: "number too high: 22"
 unfoldable pub check_query : State → ℕ → ℤ → ℕ → ℕ

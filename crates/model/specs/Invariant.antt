@@ -2,12 +2,11 @@
 use Rattle.std.specs.Prelude.{ℕ, ◌+◌, ◌%◌, ◌≤◌, ◌<◌, ◌≡◌, ◌≢◌, List, [], ◌∷◌, length, get_or, ℤ, pos, nat_abs}
 use Rattle.model.specs.declared.Set.{Set}
 use Rattle.model.specs.declared.Operation.{Operation}
-use Rattle.model.specs.Limits.{slots, semaphores, processes, value_max, pool_size, time_max, operation_bytes, array_bytes, all_semaphores, all_adjustments}
+use Rattle.model.specs.Limits.{slots, semaphores, processes, value_max, time_max, operation_bytes, array_bytes, all_semaphores, all_adjustments}
 use Rattle.model.specs.State.{Table, Sleeper, State, row, undo_row, free_set, no_set}
 use Rattle.model.specs.Operation.{operations_of}
 use Rattle.model.specs.Runs.{All, Stuck, InTime}
 use Rattle.model.specs.Waking.{World}
-use Rattle.model.specs.Pool.{entries_used}
 
 -- an undo adjustment: -32,767 to 32,767
 abbrev pub Ranged : ℤ → Type 0
@@ -69,7 +68,6 @@ pub record Invariant (s : State) : Type 0 where
   pub stuck : All (Stuck s) s.queue
   pub time : s.time ≤ time_max
   pub in_time : All (InTime s) s.queue
-  pub pool : entries_used s.table s.queue ≤ pool_size
 
 -- the same inside a waking: of the table, of the queue, and of those who were woken
 pub record Calm (sets : List Set) (w : World) : Type 0 where
@@ -77,4 +75,3 @@ pub record Calm (sets : List Set) (w : World) : Type 0 where
   pub fits : All (Fits sets) w.queue
   pub distinct : Distinct w.queue
   pub room : length w.queue + length w.wakings ≤ processes
-  pub pool : entries_used w.table w.queue ≤ pool_size

@@ -9,7 +9,6 @@ pub mod Marks
 pub mod Waking
 pub mod Clock
 pub mod Values
-pub mod Pool
 pub mod Checks
 pub mod Counts
 pub mod Events

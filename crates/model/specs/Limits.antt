@@ -19,10 +19,6 @@ operations = 32
 abbrev pub value_max : ℕ
 value_max = 32767
 
--- undo entries that can be in use: "At most 32 may be in use."
-abbrev pub pool_size : ℕ
-pool_size = 32
-
 -- nine permission bits, all on
 abbrev pub mode_max : ℕ
 mode_max = 511

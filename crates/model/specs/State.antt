@@ -1,5 +1,5 @@
 -- What the host holds ("What the host holds").
-use Rattle.std.specs.Prelude.{ℕ, zero, suc, ◌+◌, ◌*◌, ◌-◌, cond, List, [], ◌∷◌, eqb, get_or, replicate, ℤ, pos}
+use Rattle.std.specs.Prelude.{ℕ, zero, suc, ◌+◌, ◌*◌, ◌-◌, List, [], get_or, replicate, ℤ, pos}
 use Rattle.std.proofs.Math.Seq.{paste}
 use Rattle.model.specs.declared.Set.{Set}
 use Rattle.model.specs.declared.Caller.{Caller}
@@ -31,11 +31,6 @@ pub record Sleeper : Type 0 where
   pub array : List ℕ
   pub start : ℕ
   pub wait : Wait
-
--- what the sleeper of a process has; the default if the process is awake
-unfoldable pub of_process : {A : Type 0} → A → (Sleeper → A) → ℕ → List Sleeper → A
-of_process d f p [] = d
-of_process d f p (s ∷ q) = cond (eqb s.process p) (f s) (of_process d f p q)
 
 -- "Give each process a user and a group number": those of all processes, process 1's first.
 pub record Callers : Type 0 where

@@ -15,9 +15,6 @@ pub const OPERATIONS: usize = 32;
 
 pub const VALUE_MAX: u16 = 32767;
 
-// Undo entries that can be in use.
-pub const POOL: usize = 32;
-
 // The greatest mode: nine permission bits.
 pub const MODE_MAX: u16 = 511;
 

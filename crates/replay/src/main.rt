@@ -5,14 +5,18 @@ ghost use Rattle.host.specs.Holding.{host_in};
 ghost use Rattle.replaying.specs.Replay.{stage_in, last_stage};
 
 use host::HOST_BYTES;
-use model::{Engine, POOL};
+use model::{ALL_ADJUSTMENTS, Engine};
 use replaying::Progress;
 
 // Replays a file with the quick engine: what the program is named for.
-fn quick(host: &mut [u8; HOST_BYTES], pool: &mut [u32; POOL], file: &[u8]) -> Progress
-    ensures { stage_in (host_in host.new pool.new) result ≡ last_stage Quick file.now }
+fn quick(
+    host: &mut [u8; HOST_BYTES],
+    adjustments: &mut [i16; ALL_ADJUSTMENTS],
+    file: &[u8],
+) -> Progress
+    ensures { stage_in (host_in host.new adjustments.new) result ≡ last_stage Quick file.now }
 {
-    console::print(host, pool, Engine::Quick, file)
+    console::print(host, adjustments, Engine::Quick, file)
 }
 
 // At most one byte more than the longest file is read: by it a longer one is noticed.
@@ -20,6 +24,6 @@ fn main() {
     let mut space = io::large_buffer();
     let read = io::read_full(libc::STDIN_FILENO, &mut space);
     let mut host = host::fresh();
-    let mut pool = host::no_entries();
-    quick(&mut host, &mut pool, &space[..read]);
+    let mut adjustments = host::no_adjustments();
+    quick(&mut host, &mut adjustments, &space[..read]);
 }

@@ -13,7 +13,7 @@ ghost use Rattle.replaying.specs.Replay.{Came, stage_in, wrote_in, begun, piece_
 
 use host::HOST_BYTES;
 use lines::{bad_line, has_room, head_line, query_line, read_line, told_line};
-use model::{ALL_READ, Engine, POOL, Reply, WAKING_BYTES};
+use model::{ALL_ADJUSTMENTS, ALL_READ, Engine, Reply, WAKING_BYTES};
 use service::run;
 
 // How far a replay has come: the position of the next event, how many are left, and where the next body begins; and how
@@ -71,14 +71,14 @@ fn reply_line(
 // Runs events and writes their lines.
 pub fn piece(
     host: &mut [u8; HOST_BYTES],
-    pool: &mut [u32; POOL],
+    adjustments: &mut [i16; ALL_ADJUSTMENTS],
     engine: Engine,
     file: &[u8],
     p: Progress,
     out: &mut [u8],
 ) -> Progress
-    requires { Came file.now (stage_in (host_in host.old pool.old) p) }
-    ensures out_after { wrote_in (host_in host.new pool.new) result out.new ≡ piece_of engine file.now (stage_in (host_in host.old pool.old) p) out.old }
+    requires { Came file.now (stage_in (host_in host.old adjustments.old) p) }
+    ensures out_after { wrote_in (host_in host.new adjustments.new) result out.new ≡ piece_of engine file.now (stage_in (host_in host.old adjustments.old) p) out.old }
     ensures written_in_bounds { result.written ≤ length out.new }
 {
     let mut wakings = [0u8; WAKING_BYTES];
@@ -96,7 +96,7 @@ pub fn piece(
         let event = runfile::event_at(file, at);
         let reply = run(
             &mut *host,
-            &mut *pool,
+            &mut *adjustments,
             &mut wakings,
             &mut numbers,
             engine,

@@ -9,7 +9,7 @@ use lib.Dec.{eqb, ltb}
 use lib.ListN.{length, take}
 use lib.Seq.{length-take-le, get_or-take}
 use borrow.Author.Tests.{ltb-true, ltb-false, lt-ltb, le-ltb, eqb-true, ne_eqb}
-use Rattle.model.proofs.CheckLaws.{and-true}
+use Rattle.model.proofs.CheckLaws.{and_true}
 use Rattle.runfile.specs.Fields.{half_at}
 use Rattle.runfile.specs.Table.{file_max, head_bytes, entry_bytes, count_in, Entry, entries_from, table_of, table_end, chains}
 use Rattle.runfile.specs.File.{bad, file_of, code_of_file}
@@ -36,7 +36,7 @@ one_end : (at : ℕ) (es : List Entry) (end other : ℕ) → chains at es end �
 unfolding chains
 one_end at [] end other c h = ne_eqb at other (λ e. h (sym (eqb-true at end c) ∙ e))
 one_end at (e ∷ es) end other c h =
-    let b = and-true (eqb e.offset at) (chains (at + e.size) es end) c in
+    let b = and_true (eqb e.offset at) (chains (at + e.size) es end) c in
     rw (b.0, one_end (at + e.size) es end other b.1 h)
 
 -- ---- the code of a beginning

@@ -9,7 +9,7 @@ use lib.Dec.{eqb}
 use lib.ListN.{length}
 use borrow.Author.Tests.{ltb-false, eqb-true}
 use Rattle.model.specs.Events.{Event}
-use Rattle.model.proofs.CheckLaws.{and-true}
+use Rattle.model.proofs.CheckLaws.{and_true}
 use Rattle.runfile.specs.Table.{file_max, head_bytes, entry_bytes, count_in, Entry, entry_at, entries_from, table_of, table_end, chains}
 use Rattle.runfile.specs.Body.{size_at, event_at, body_code, next_at, events_from}
 use Rattle.runfile.specs.File.{File, bad, good, before, events_of, file_of, bad_code, code_of_file}
@@ -101,7 +101,7 @@ unfolding entries_from chains events_of events_from
 walked file zero from at h k = record { events = refl; bodies = end (eqb-true _ _ h) }
 walked file (suc n) from at h k =
     let e = entry_at file from in
-    let c = and-true _ _ h in
+    let c = and_true _ _ h in
     let f = first_fine _ _ _ k in
     let o : e.offset ≡ at = eqb-true _ _ c.0 in
     let b = rw o at (body_fine file e.offset e.size f.0) in

@@ -8,7 +8,7 @@ use Rattle.model.specs.declared.Operation.{Operation}
 use Rattle.model.specs.declared.Outcome.{Outcome}
 use Rattle.model.specs.declared.Outcome.TheVariants.{Done, Sleep, Again, Range}
 use Rattle.model.specs.Limits.{slots, semaphores, processes}
-use Rattle.model.specs.State.{Table, Sleeper, no_sleeper, row, of_process}
+use Rattle.model.specs.State.{Table, Sleeper, no_sleeper, row}
 use Rattle.model.specs.Operation.{operations_of, is_negative, has_bit}
 use Rattle.model.specs.Judge.{finishes, judge}
 use Rattle.model.specs.Look.{values_of, look, copies_of}
@@ -23,7 +23,7 @@ use Rattle.model.proofs.Ones.{ones_mask}
 use Rattle.model.proofs.WholeSetLaws.{each_is, stops}
 use Rattle.host.specs.Parts.{Row, values, sleeps_at, sizes}
 use Rattle.host.specs.Rows.{from}
-use Rattle.host.specs.Holding.{Host, Held, the_slot, the_size, entry, room_in, array_in, queue_in, table_in, state_in}
+use Rattle.host.specs.Holding.{Host, Held, of_process, the_slot, the_size, entry, room_in, array_in, queue_in, table_in, state_in}
 use Rattle.host.specs.Queue.{Room}
 use Rattle.host.proofs.ProcessLaws.{of_own}
 use Rattle.host.proofs.SleeperLaws.{zeros_at}

@@ -28,7 +28,7 @@ pub use events::set_all::set_all;
 pub use events::set_value::set_value;
 pub use events::signal::signal;
 use host::HOST_BYTES;
-use model::{ALL_READ, Engine, Event, POOL, Reply, WAKING_BYTES};
+use model::{ALL_ADJUSTMENTS, ALL_READ, Engine, Event, Reply, WAKING_BYTES};
 use wakings::clear;
 pub use whole_set::query_set;
 
@@ -36,52 +36,70 @@ pub use whole_set::query_set;
 // reading shows go to what is lent for them.
 pub fn run(
     host: &mut [u8; HOST_BYTES],
-    pool: &mut [u32; POOL],
+    adjustments: &mut [i16; ALL_ADJUSTMENTS],
     list: &mut [u8; WAKING_BYTES],
     numbers: &mut [u32; ALL_READ],
     engine: Engine,
     event: Event,
     bytes: &[u8],
 ) -> Reply
-    requires { Held (host_in host.old pool.old) }
-    ensures result_after { replied_in host.new pool.new list.new numbers.new result ≡ replied_of (event_of event bytes.now) (event_in (waker engine) (state_in (host_in host.old pool.old)) (event_of event bytes.now)) }
-    ensures numbers_after { numbers.new ≡ numbers_after numbers.old (event_of event bytes.now) (event_in (waker engine) (state_in (host_in host.old pool.old)) (event_of event bytes.now)) }
+    requires { Held (host_in host.old adjustments.old) }
+    ensures result_after { replied_in host.new adjustments.new list.new numbers.new result ≡ replied_of (event_of event bytes.now) (event_in (waker engine) (state_in (host_in host.old adjustments.old)) (event_of event bytes.now)) }
+    ensures numbers_after { numbers.new ≡ numbers_after numbers.old (event_of event bytes.now) (event_in (waker engine) (state_in (host_in host.old adjustments.old)) (event_of event bytes.now)) }
 {
     match event {
         Event::Create {
             process,
             count,
             mode,
-        } => Reply::Told(create(host, pool, list, process, count, mode)),
+        } => Reply::Told(create(host, adjustments, list, process, count, mode)),
         Event::Operate {
             process,
             identifier,
             wait,
-        } => Reply::Told(operate(host, pool, list, engine, process, identifier, wait, bytes)),
+        } => Reply::Told(operate(
+            host,
+            adjustments,
+            list,
+            engine,
+            process,
+            identifier,
+            wait,
+            bytes,
+        )),
         Event::SetValue {
             process,
             identifier,
             number,
             value,
-        } => Reply::Told(set_value(host, pool, list, engine, process, identifier, number, value)),
+        } => Reply::Told(set_value(
+            host,
+            adjustments,
+            list,
+            engine,
+            process,
+            identifier,
+            number,
+            value,
+        )),
         Event::Remove {
             process,
             identifier,
-        } => { Reply::Told(remove(host, pool, list, process, identifier)) }
-        Event::Signal { process } => Reply::Told(signal(host, pool, list, process)),
-        Event::Exit { process } => Reply::Told(exit(host, pool, list, engine, process)),
+        } => { Reply::Told(remove(host, adjustments, list, process, identifier)) }
+        Event::Signal { process } => Reply::Told(signal(host, adjustments, list, process)),
+        Event::Exit { process } => Reply::Told(exit(host, adjustments, list, engine, process)),
         Event::Query {
             process,
             identifier,
             number,
         } => {
             clear(list);
-            Reply::Seen(query(&*host, &*pool, process, identifier, number))
+            Reply::Seen(query(&*host, &*adjustments, process, identifier, number))
         }
         Event::SetAll {
             process,
             identifier,
-        } => { Reply::Told(set_all(host, pool, list, engine, process, identifier, bytes)) }
+        } => { Reply::Told(set_all(host, adjustments, list, engine, process, identifier, bytes)) }
         Event::ReadAll {
             process,
             identifier,
@@ -89,13 +107,13 @@ pub fn run(
             // As a slice once: that tells the proof how long it is.
             let _all: &[u32] = &*numbers;
             clear(list);
-            Reply::Read(read_all(&*host, &*pool, numbers, process, identifier))
+            Reply::Read(read_all(&*host, &*adjustments, numbers, process, identifier))
         }
-        Event::Clock { time } => Reply::Told(clock(host, pool, list, time)),
+        Event::Clock { time } => Reply::Told(clock(host, adjustments, list, time)),
         Event::ActAs {
             process,
             user,
             group,
-        } => Reply::Told(act_as(host, pool, list, process, user, group)),
+        } => Reply::Told(act_as(host, adjustments, list, process, user, group)),
     }
 }

@@ -11,7 +11,7 @@ ghost use Rattle.service.specs.Waiting.{waiters_of, wait_if};
 
 use host::{HOST_BYTES, room_of, size_at, slot_byte, values_of};
 use judging::{Stop, is_negative, stop_of};
-use model::{POOL, PROCESSES, SEMAPHORES};
+use model::{ALL_ADJUSTMENTS, PROCESSES, SEMAPHORES};
 use service_waking::bit_of;
 
 // At each semaphore of a set the processes that wait there, as masks: for an increase, and for zero; and how many arrays were
@@ -66,10 +66,14 @@ fn judge_one(
 
 // The walk goes by process: a process sleeps at most once, and the masks are of processes. Each sleeper of the set is judged
 // once, and none of another set. The adjustments are lent for the premise alone: where a sleeper stops, the values tell.
-pub fn waiting(host: &[u8; HOST_BYTES], pool: &[u32; POOL], slot: usize) -> Waiters
-    requires held { Held (host_in host.now pool.now) }
+pub fn waiting(
+    host: &[u8; HOST_BYTES],
+    adjustments: &[i16; ALL_ADJUSTMENTS],
+    slot: usize,
+) -> Waiters
+    requires held { Held (host_in host.now adjustments.now) }
     requires slot { IsSlot slot }
-    ensures { result ≡ waiters_of (table_in (host_in host.now pool.now)) slot (queue_in (host_in host.now pool.now).row) }
+    ensures { result ≡ waiters_of (table_in (host_in host.now adjustments.now)) slot (queue_in (host_in host.now adjustments.now).row) }
 {
     let values = values_of(host, slot);
     let wanted = (slot % 256) as u8;

@@ -6,7 +6,7 @@ ghost use Rattle.host.specs.Holding.{Held, host_in, state_in};
 use crate::waiting::waiting;
 use host::{HOST_BYTES, lasts_of, set_at, values_of};
 use judging::{answer, slot_of};
-use model::{POOL, QueriedSet, READ, SEMAPHORES};
+use model::{ALL_ADJUSTMENTS, QueriedSet, READ, SEMAPHORES};
 use service_checks::check_access;
 
 // How many processes are in each mask: the number of ones in it.
@@ -41,12 +41,12 @@ fn refused(code: u8) -> QueriedSet
 // Refused as a reading is.
 pub fn query_set(
     host: &[u8; HOST_BYTES],
-    pool: &[u32; POOL],
+    adjustments: &[i16; ALL_ADJUSTMENTS],
     process: u8,
     identifier: i32,
 ) -> QueriedSet
-    requires { Held (host_in host.now pool.now) }
-    ensures { result ≡ query_set (state_in (host_in host.now pool.now)) process identifier }
+    requires { Held (host_in host.now adjustments.now) }
+    ensures { result ≡ query_set (state_in (host_in host.now adjustments.now)) process identifier }
 {
     let code = check_access(host, process, identifier, READ);
     if code != 0 {
@@ -54,7 +54,7 @@ pub fn query_set(
     }
     let slot = slot_of(identifier);
     let set = set_at(host, slot);
-    let waiters = waiting(host, pool, slot);
+    let waiters = waiting(host, adjustments, slot);
     let increase = waiters.increase;
     let zero = waiters.zero;
     QueriedSet {

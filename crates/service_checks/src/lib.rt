@@ -1,16 +1,13 @@
 // A part of the service: the checks of each event, in the order in which they are asked. Each gives the code of the first
 // that applies, 0 if none does.
 //
-// They read the row alone, so their promises hold whatever the pool holds; src/room.rt has the one test that asks the pool.
-mod room;
-
+// They read the row alone, so their promises hold whatever the adjustments are.
 ghost use Rattle.std.specs.Prelude.{◌≡◌, cond, not, ◌||◌, List, ◌%◌, ◌<◌, eqb, ltb, leb, ℤ};
 ghost use Rattle.model.specs.Limits.{operation_bytes};
 ghost use Rattle.model.specs.Operation.{operations_of};
 ghost use Rattle.model.specs.Permission.{owns as owns_it};
 ghost use Rattle.model.specs.State.{caller_of};
-ghost use Rattle.model.specs.Pool.{undoing};
-ghost use Rattle.model.specs.Checks.{names_set, set_of, may as may_do, free_slot, check_caller, check_access, check_create, check_call, check_query, check_set_value, check_set_all, check_remove, check_process, check_clock};
+ghost use Rattle.model.specs.Checks.{names_set, set_of, may as may_do, free_slot, check_caller, check_access, check_create, check_operate, check_query, check_set_value, check_set_all, check_remove, check_process, check_clock};
 ghost use Rattle.judging.specs.Named.{named_within};
 ghost use Rattle.host.specs.Parts.{row_in};
 ghost use Rattle.host.specs.Holding.{sets_in, host_in, state_in};
@@ -22,7 +19,6 @@ use model::{
     ALTER, ARRAY_BYTES, MODE_MAX, OPERATION_BYTES, PROCESSES, READ, SEMAPHORES, SETS, TIME_MAX,
     VALUE_BYTES,
 };
-pub use room::has_room;
 use service_queue::is_asleep;
 
 // Is the number not one of 1 to `most`?
@@ -72,7 +68,7 @@ pub fn free_slot(host: &[u8; HOST_BYTES]) -> usize
 // Every event that names a caller: a process, and awake.
 pub fn check_caller(host: &[u8; HOST_BYTES], process: u8) -> u8
     requires { Seated (row_in host.now) }
-    ensures { (a : List ℕ) → result ≡ check_caller (state_in (host_in host.now a)) process }
+    ensures { (a : List ℤ) → result ≡ check_caller (state_in (host_in host.now a)) process }
 {
     if beyond(process, PROCESSES) {
         return 3;
@@ -83,7 +79,7 @@ pub fn check_caller(host: &[u8; HOST_BYTES], process: u8) -> u8
 // May the process do this with the set in the identifier's slot?
 fn may(host: &[u8; HOST_BYTES], process: u8, identifier: i32, asked: u16) -> bool
     requires { 0 < process }
-    ensures { (a : List ℕ) → result ≡ may_do (state_in (host_in host.now a)) process identifier asked }
+    ensures { (a : List ℤ) → result ≡ may_do (state_in (host_in host.now a)) process identifier asked }
 {
     permits(
         caller_of(host, process),
@@ -95,7 +91,7 @@ fn may(host: &[u8; HOST_BYTES], process: u8, identifier: i32, asked: u16) -> boo
 // May it remove that set?
 fn may_remove(host: &[u8; HOST_BYTES], process: u8, identifier: i32) -> bool
     requires { 0 < process }
-    ensures { (a : List ℕ) → result ≡ owns_it (caller_of (state_in (host_in host.now a)).callers process) (set_of (state_in (host_in host.now a)) identifier) }
+    ensures { (a : List ℤ) → result ≡ owns_it (caller_of (state_in (host_in host.now a)).callers process) (set_of (state_in (host_in host.now a)) identifier) }
 {
     owns(caller_of(host, process), set_at(host, slot_of(identifier)))
 }
@@ -103,7 +99,7 @@ fn may_remove(host: &[u8; HOST_BYTES], process: u8, identifier: i32) -> bool
 // What asks something of a set: read all and a whole set ask nothing else.
 pub fn check_access(host: &[u8; HOST_BYTES], process: u8, identifier: i32, asked: u16) -> u8
     requires { Seated (row_in host.now) }
-    ensures { (a : List ℕ) → result ≡ check_access (state_in (host_in host.now a)) process identifier asked }
+    ensures { (a : List ℤ) → result ≡ check_access (state_in (host_in host.now a)) process identifier asked }
 {
     let code = check_caller(host, process);
     if code != 0 {
@@ -122,7 +118,7 @@ pub fn check_access(host: &[u8; HOST_BYTES], process: u8, identifier: i32, asked
 // Create.
 pub fn check_create(host: &[u8; HOST_BYTES], process: u8, count: u8, mode: u16) -> u8
     requires { Seated (row_in host.now) }
-    ensures { (a : List ℕ) → result ≡ check_create (state_in (host_in host.now a)) process count mode }
+    ensures { (a : List ℤ) → result ≡ check_create (state_in (host_in host.now a)) process count mode }
 {
     let code = check_caller(host, process);
     if code != 0 {
@@ -137,41 +133,27 @@ pub fn check_create(host: &[u8; HOST_BYTES], process: u8, count: u8, mode: u16) 
     if free_slot(host) == SETS { 28 } else { 0 }
 }
 
-// Operate, but for the pool: the code, and the semaphores that the array names and undoes, none if it is refused.
-pub fn check_call(host: &[u8; HOST_BYTES], process: u8, identifier: i32, bytes: &[u8]) -> Checked
+// Operate: the code, and the semaphores that the array names, none if it is refused.
+pub fn check_operate(host: &[u8; HOST_BYTES], process: u8, identifier: i32, bytes: &[u8]) -> Checked
     requires { Seated (row_in host.now) }
-    ensures by_index { (a : List ℕ) → result.code ≡ check_call (state_in (host_in host.now a)) process identifier bytes.now }
+    ensures code_value { (a : List ℤ) → result.code ≡ check_operate (state_in (host_in host.now a)) process identifier bytes.now }
     ensures names_value { result.names ≡ cond (eqb result.code 0) (named_within 0 (operations_of bytes.now)) 0 }
-    ensures undos_value { result.undos ≡ cond (eqb result.code 0) (named_within 0 (undoing (operations_of bytes.now))) 0 }
 {
     let code = check_caller(host, process);
     if code != 0 {
         return Checked {
             code: code,
             names: 0,
-            undos: 0,
         };
     }
     if no_array(bytes.len()) {
-        return Checked {
-            code: 22,
-            names: 0,
-            undos: 0,
-        };
+        return Checked { code: 22, names: 0 };
     }
     if ARRAY_BYTES < bytes.len() {
-        return Checked {
-            code: 7,
-            names: 0,
-            undos: 0,
-        };
+        return Checked { code: 7, names: 0 };
     }
     if !names_set(host, identifier) {
-        return Checked {
-            code: 22,
-            names: 0,
-            undos: 0,
-        };
+        return Checked { code: 22, names: 0 };
     }
     let set = set_at(host, slot_of(identifier));
     let reads = may(host, process, identifier, READ);
@@ -181,7 +163,7 @@ pub fn check_call(host: &[u8; HOST_BYTES], process: u8, identifier: i32, bytes: 
 
 // Does the set in the identifier's slot lack a semaphore of this number?
 fn lacks(host: &[u8; HOST_BYTES], identifier: i32, number: u16) -> bool
-    ensures { (a : List ℕ) → result ≡ leb (set_of (state_in (host_in host.now a)) identifier).count number }
+    ensures { (a : List ℤ) → result ≡ leb (set_of (state_in (host_in host.now a)) identifier).count number }
 {
     let set = set_at(host, slot_of(identifier));
     set.count as u16 <= number
@@ -190,7 +172,7 @@ fn lacks(host: &[u8; HOST_BYTES], identifier: i32, number: u16) -> bool
 // Query.
 pub fn check_query(host: &[u8; HOST_BYTES], process: u8, identifier: i32, number: u16) -> u8
     requires { Seated (row_in host.now) }
-    ensures { (a : List ℕ) → result ≡ check_query (state_in (host_in host.now a)) process identifier number }
+    ensures { (a : List ℤ) → result ≡ check_query (state_in (host_in host.now a)) process identifier number }
 {
     let code = check_access(host, process, identifier, READ);
     if code != 0 {
@@ -212,7 +194,7 @@ pub fn check_set_value(
     value: i32,
 ) -> u8
     requires { Seated (row_in host.now) }
-    ensures { (a : List ℕ) → result ≡ check_set_value (state_in (host_in host.now a)) process identifier number value }
+    ensures { (a : List ℤ) → result ≡ check_set_value (state_in (host_in host.now a)) process identifier number value }
 {
     let code = check_access(host, process, identifier, ALTER);
     if code != 0 {
@@ -227,7 +209,7 @@ pub fn check_set_value(
 // Set all: as many values as the set has semaphores, then each in range.
 pub fn check_set_all(host: &[u8; HOST_BYTES], process: u8, identifier: i32, bytes: &[u8]) -> u8
     requires { Seated (row_in host.now) }
-    ensures { (a : List ℕ) → result ≡ check_set_all (state_in (host_in host.now a)) process identifier bytes.now }
+    ensures { (a : List ℤ) → result ≡ check_set_all (state_in (host_in host.now a)) process identifier bytes.now }
 {
     let code = check_access(host, process, identifier, ALTER);
     if code != 0 {
@@ -243,7 +225,7 @@ pub fn check_set_all(host: &[u8; HOST_BYTES], process: u8, identifier: i32, byte
 // Remove.
 pub fn check_remove(host: &[u8; HOST_BYTES], process: u8, identifier: i32) -> u8
     requires { Seated (row_in host.now) }
-    ensures { (a : List ℕ) → result ≡ check_remove (state_in (host_in host.now a)) process identifier }
+    ensures { (a : List ℤ) → result ≡ check_remove (state_in (host_in host.now a)) process identifier }
 {
     let code = check_caller(host, process);
     if code != 0 {
@@ -268,7 +250,7 @@ pub fn check_process(process: u8) -> u8
 
 // The clock: not before the last time told, and none later than the latest.
 pub fn check_clock(host: &[u8; HOST_BYTES], time: u64) -> u8
-    ensures { (a : List ℕ) → result ≡ check_clock (state_in (host_in host.now a)) time }
+    ensures { (a : List ℤ) → result ≡ check_clock (state_in (host_in host.now a)) time }
 {
     if time < time_of(host) {
         return 22;

@@ -12,7 +12,7 @@ use lib.Dec.{eqb, ltb}
 use lib.ListN.{length, get_or, drop, drop_of_length-le, get_or-eq_default}
 use lib.Seq.{drop-cons}
 use Rattle.model.specs.Limits.{processes}
-use Rattle.model.specs.State.{Sleeper, no_sleeper, of_process}
+use Rattle.model.specs.State.{Sleeper, no_sleeper}
 use Rattle.model.specs.Waking.{without}
 use Rattle.model.specs.Checks.{asleep}
 use Rattle.model.specs.Events.{keep, not_of}
@@ -21,7 +21,7 @@ use Rattle.model.specs.Invariant.{Distinct, apart}
 use Rattle.model.proofs.Lists.{first, rest, all_map, all_at}
 use Rattle.model.proofs.QueueLaws.{awake}
 use Rattle.host.specs.Parts.{Row, order, sizes}
-use Rattle.host.specs.Holding.{by_process, the_size, with_queue, entry, queue_in}
+use Rattle.host.specs.Holding.{of_process, by_process, the_size, with_queue, entry, queue_in}
 use Rattle.host.specs.Queue.{Room, QueueHeld}
 use Rattle.host.proofs.PartLaws.{less_or_not}
 use Rattle.host.proofs.ProcessLaws.{Awake, of_none, length_by, of_process_lem}

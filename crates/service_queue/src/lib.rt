@@ -5,7 +5,6 @@ ghost use Rattle.model.specs.State.{Sleeper};
 ghost use Rattle.model.specs.Operation.{operations_of};
 ghost use Rattle.model.specs.Marks.{named_by};
 ghost use Rattle.model.specs.Waking.{without};
-ghost use Rattle.model.specs.Pool.{undoing};
 ghost use Rattle.model.specs.Checks.{asleep};
 ghost use Rattle.model.specs.Events.{keep, ended_with, not_of};
 ghost use Rattle.model.specs.Runs.{All};
@@ -23,15 +22,13 @@ use host::{
 use model::{Position, WAKING_BYTES, Wait};
 use wakings::note;
 
-// A call joins behind the others at the time last told, with its wait and the masks of the semaphores that its array names, and
-// that it names with SEM_UNDO and an amount other than 0.
+// A call joins behind the others at the time last told, with its wait and the mask of the semaphores that its array names.
 pub fn fall_asleep(
     host: &mut [u8; HOST_BYTES],
     process: u8,
     slot: usize,
     bytes: &[u8],
     names: u8,
-    undos: u8,
     wait: Wait,
 )
     requires queue_held { QueueHeld (row_in host.old) }
@@ -40,19 +37,11 @@ pub fn fall_asleep(
     requires host_len_bound { length (queue_in (row_in host.old)) < processes }
     requires slot_bound { slot < 256 }
     requires names_value { names ≡ named_by 0 (operations_of bytes.now) }
-    requires undos_value { undos ≡ named_by 0 (undoing (operations_of bytes.now)) }
     ensures { row_in host.new ≡ with_queue (row_in host.old) (queue_in (row_in host.old) ++ record { process = process; slot = slot; array = bytes.now; start = time_in (row_in host.old); wait = wait } ∷ []) }
 {
     let start = time_of(&*host);
     store_array(&mut *host, process, bytes);
-    put_call(
-        &mut *host,
-        process,
-        slot as u8,
-        bytes.len() as u8,
-        names,
-        undos,
-    );
+    put_call(&mut *host, process, slot as u8, bytes.len() as u8, names);
     put_wait(&mut *host, process, start, wait_number(wait));
     let n = asleep_of(&*host);
     put_process(&mut *host, n, process);
@@ -81,7 +70,7 @@ pub fn take_out(host: &mut [u8; HOST_BYTES], at: usize)
 {
     let process = process_at(&*host, at);
     let size = size_at(&*host, process);
-    put_call(&mut *host, process, 0, 0, 0, 0);
+    put_call(&mut *host, process, 0, 0, 0);
     put_wait(&mut *host, process, 0, 0);
     let last = asleep_of(&*host) - 1;
     move_up(&mut *host, at, last);

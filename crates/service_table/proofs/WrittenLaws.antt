@@ -23,10 +23,13 @@ use Rattle.service_table.specs.Numbered.{IsSlot, IsProcess, Numbered}
 use Rattle.service_table.specs.Written.{tabled, with_copies}
 use Rattle.service_table.proofs.LastLaws.{length_masked, masked_lasts}
 
+abbrev pub host_as : Row → List ℤ → Host
+host_as r a = record { row = r; adjustments = a }
+
 -- ---- one table after another
 
-pub tabled_same : (x : Host) → x.pool ≡ pool_of x.adjustments → x ≡ tabled x (table_in x)
-tabled_same x e = ap₂ (λ (r : Row) (es : List ℕ). record { row = r; pool = es; adjustments = x.adjustments }) (by_parts _ _ refl) e
+pub tabled_same : (x : Host) → x ≡ tabled x (table_in x)
+tabled_same x = ap (λ (r : Row). host_as r x.adjustments) (by_parts _ _ refl)
 
 pub tabled_again : (x : Host) (t t' : Table) → tabled (tabled x t) t' ≡ tabled x t'
 tabled_again x t t' = ap (λ (r : Row). host_as r t'.adjustments) (by_parts _ _ refl)
@@ -38,8 +41,8 @@ pub record Sized (x : Host) : Type 0 where
   pub lasts : length (x.row lasts) ≡ all_semaphores
   pub adjustments : length x.adjustments ≡ all_adjustments
 
-pub sized_in : (h es : List ℕ) → Sized (host_in h es)
-sized_in h es = record { values = length_part values h; lasts = length_part lasts h; adjustments = length_adjustments es }
+pub sized_in : (h : List ℕ) (a : List ℤ) → length a ≡ all_adjustments → Sized (host_in h a)
+sized_in h a e = record { values = length_part values h; lasts = length_part lasts h; adjustments = e }
 
 -- .. of a host with a good table, so of `tabled x t` where t is good
 pub sized_good : (x : Host) → Good (table_in x) → Sized x

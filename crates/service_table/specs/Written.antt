@@ -1,34 +1,28 @@
 -- What the functions of the crate do to a host: its table changes, its sets and its queue stay.
-use Rattle.std.specs.Prelude.{ℕ, ◌+◌, ◌^◌, ◌<◌, ◌≡◌, Bool, true, false, ◌&&◌, List, [], ◌∷◌, ℤ, pos, get_or, replicate}
+use Rattle.std.specs.Prelude.{ℕ, Bool, true, ◌&&◌, List, [], ◌∷◌, ℤ, pos, replicate}
 use Rattle.std.proofs.lemmas.List.Edits.{sets}
 use Rattle.std.proofs.Math.Seq.{paste}
 use Rattle.model.specs.declared.Copies.{Copies}
 use Rattle.model.specs.Limits.{semaphores}
 use Rattle.model.specs.State.{Table, with_values, with_adjustments, row, undo_row}
-use Rattle.model.specs.Operation.{has_bit, is_zero}
+use Rattle.model.specs.Operation.{is_zero}
 use Rattle.model.specs.Look.{values_of, adjustments_of}
 use Rattle.model.specs.Events.{undo_all}
 use Rattle.host.specs.Parts.{values, lasts, Row, with}
 use Rattle.host.specs.Rows.{masked, undo_at}
-use Rattle.host.specs.Holding.{Host, host_as, with_table}
-use Rattle.host.specs.Spare.{Spare}
-use Rattle.pool.specs.Entries.{adjustments_in}
+use Rattle.host.specs.Holding.{Host, with_table}
 
 -- a host with another table
 abbrev pub tabled : Host → Table → Host
-tabled x t = host_as (with_table x.row t) t.adjustments
+tabled x t = record { row = with_table x.row t; adjustments = t.adjustments }
 
 -- .. with the copies of a judged array in a slot, and the process as the last of the semaphores in the mask
 abbrev pub with_copies : Host → ℕ → ℕ → ℕ → Copies → Host
 with_copies x process slot mask copies =
-    host_as
-    (with (with x.row values (sets (x.row values) (row slot) copies.values)) lasts (masked mask process semaphores (row slot) (x.row lasts)))
-    (sets x.adjustments (undo_at process slot) copies.adjustments)
-
--- what `apply` asks of the pool: room for the adjustments that are in the mask, and that no other differs
-pub record Settling (es : List ℕ) (process slot mask : ℕ) (new : List ℤ) : Type 0 where
-  pub spare : Spare es (undo_at process slot) mask new
-  pub same : (j : ℕ) → j < semaphores → has_bit mask (2 ^ j) ≡ false → get_or new j (pos 0) ≡ get_or (adjustments_in es) (undo_at process slot + j) (pos 0)
+    record {
+      row = with (with x.row values (sets (x.row values) (row slot) copies.values)) lasts (masked mask process semaphores (row slot) (x.row lasts));
+      adjustments = sets x.adjustments (undo_at process slot) copies.adjustments;
+    }
 
 -- a row with these values in semaphores one behind the other, from a place on
 abbrev pub with_values_from : Row → ℕ → List ℕ → Row

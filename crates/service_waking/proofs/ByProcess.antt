@@ -13,7 +13,7 @@ use lib.Bits.{bit_or, or_step, or_shr, or_zero_r}
 use lib.ListN.{get_or}
 use borrow.Author.Tests.{eqb-true, eqb-false, leb-true, leb-false, le-leb, lt-leb}
 use Rattle.model.specs.Limits.{processes}
-use Rattle.model.specs.State.{Sleeper, of_process}
+use Rattle.model.specs.State.{Sleeper}
 use Rattle.model.specs.Operation.{has_bit}
 use Rattle.model.specs.Marks.{bit_of, mask_of}
 use Rattle.model.specs.Runs.{All, none, also}
@@ -22,7 +22,7 @@ use Rattle.model.proofs.Bits.{bit, bit_zero, bit_or_other, has_bit_bit}
 use Rattle.model.proofs.Lists.{all_map}
 use Rattle.model.proofs.QueueLaws.{others_first, distinct_rest}
 use Rattle.host.specs.Parts.{Row, Part}
-use Rattle.host.specs.Holding.{by_process, with_queue, entry, queue_in}
+use Rattle.host.specs.Holding.{of_process, by_process, with_queue, entry, queue_in}
 use Rattle.host.specs.Queue.{Room, QueueHeld}
 use Rattle.host.proofs.ProcessLaws.{of_process_lem}
 use Rattle.host.proofs.QueueRows.{entry_is}

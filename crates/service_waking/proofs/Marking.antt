@@ -10,11 +10,11 @@ use lib.Bits.{bit_and, bit_or}
 use lib.ListN.{get_or}
 use mir.Val.{bool_byte}
 use Rattle.model.specs.Limits.{slots, processes}
-use Rattle.model.specs.State.{Sleeper, of_process}
+use Rattle.model.specs.State.{Sleeper}
 use Rattle.model.specs.Operation.{has_bit}
 use Rattle.model.specs.Marks.{named, mine, concerned, mask_of, mark_touched}
 use Rattle.host.specs.Parts.{Row, sleeps_at, names}
-use Rattle.host.specs.Holding.{the_slot, entry, queue_in}
+use Rattle.host.specs.Holding.{of_process, the_slot, entry, queue_in}
 use Rattle.host.specs.Queue.{QueueHeld}
 use Rattle.service_waking.proofs.ByProcess.{up_to, mask_start, mask_end, mask_next, by_next}
 

@@ -18,10 +18,10 @@ ghost use Rattle.service_waking.specs.Lent.{lent_in, world_in, lent_with, left_i
 
 use host::{
     HOST_BYTES, adjustments_of, array_of, asleep_of, names_at, process_at, set_at, slot_at,
-    slot_byte, undos_at, values_of,
+    slot_byte, values_of,
 };
 use judging::{decided, finishes, judge};
-use model::{Engine, Outcome, POOL, PROCESSES, SEMAPHORES, SETS, WAKING_BYTES};
+use model::{ALL_ADJUSTMENTS, Engine, Outcome, PROCESSES, SEMAPHORES, SETS, WAKING_BYTES};
 use service_queue::take_out;
 use service_table::{apply, differing_mask};
 use wakings::note;
@@ -65,14 +65,14 @@ struct Looked {
 }
 
 // A look at the sleeper at a position: its array judged on the present state.
-fn look(host: &[u8; HOST_BYTES], pool: &[u32; POOL], at: usize) -> Looked
-    requires { Settleable (host_in host.now pool.now) at }
-    ensures { JudgedAs (table_in (host_in host.now pool.now)) (get_or (queue_in (row_in host.now)) at no_sleeper) result.outcome result.position (record { values = result.values; adjustments = result.undo }) }
+fn look(host: &[u8; HOST_BYTES], adjustments: &[i16; ALL_ADJUSTMENTS], at: usize) -> Looked
+    requires { Settleable (host_in host.now adjustments.now) at }
+    ensures { JudgedAs (table_in (host_in host.now adjustments.now)) (get_or (queue_in (row_in host.now)) at no_sleeper) result.outcome result.position (record { values = result.values; adjustments = result.undo }) }
 {
     let process = process_at(host, at);
     let slot = slot_at(host, process);
     let mut values = values_of(host, slot);
-    let mut undo = adjustments_of(pool, process, slot);
+    let mut undo = adjustments_of(adjustments, process, slot);
     let verdict = judge(&mut values, &mut undo, array_of(host, process));
     let position = verdict.position;
     let outcome = verdict.outcome;
@@ -95,22 +95,21 @@ fn look(host: &[u8; HOST_BYTES], pool: &[u32; POOL], at: usize) -> Looked
 // What judging the array of the sleeper at a position leaves of the table: it is applied if it is done.
 fn settle(
     host: &mut [u8; HOST_BYTES],
-    pool: &mut [u32; POOL],
+    adjustments: &mut [i16; ALL_ADJUSTMENTS],
     at: usize,
     outcome: Outcome,
     values: [u16; SEMAPHORES],
     undo: [i16; SEMAPHORES],
 )
-    requires { Settleable (host_in host.old pool.old) at }
-    ensures { host_in host.new pool.new ≡ tabled (host_in host.old pool.old) (after (table_in (host_in host.old pool.old)) (get_or (queue_in (row_in host.old)) at no_sleeper) outcome (record { values = values; adjustments = undo })) }
+    requires { Settleable (host_in host.old adjustments.old) at }
+    ensures { host_in host.new adjustments.new ≡ tabled (host_in host.old adjustments.old) (after (table_in (host_in host.old adjustments.old)) (get_or (queue_in (row_in host.old)) at no_sleeper) outcome (record { values = values; adjustments = undo })) }
 {
     match outcome {
         Outcome::Done => {
             let process = process_at(&*host, at);
             let slot = slot_at(&*host, process);
-            let names = names_at(&*host, process);
-            let undos = undos_at(&*host, process);
-            apply(host, pool, process, slot, names, undos, values, undo);
+            let mask = names_at(&*host, process);
+            apply(host, adjustments, process, slot, mask, values, undo);
         }
         _ => {}
     }
@@ -119,20 +118,20 @@ fn settle(
 // The sleeper at a position is finished as it was judged: its array is settled, its waking noted, and it is taken out.
 fn finish(
     host: &mut [u8; HOST_BYTES],
-    pool: &mut [u32; POOL],
+    adjustments: &mut [i16; ALL_ADJUSTMENTS],
     wakings: &mut [u8; WAKING_BYTES],
     woken: usize,
     at: usize,
     looked: Looked,
 )
-    requires { Finishable (lent_in host.old pool.old wakings.old woken) at looked.outcome looked.position (record { values = looked.values; adjustments = looked.undo }) }
-    ensures { lent_in host.new pool.new wakings.new (woken + 1) ≡ lent_with (lent_in host.old pool.old wakings.old woken) (finished (world_in (lent_in host.old pool.old wakings.old woken)) at) }
+    requires { Finishable (lent_in host.old adjustments.old wakings.old woken) at looked.outcome looked.position (record { values = looked.values; adjustments = looked.undo }) }
+    ensures { lent_in host.new adjustments.new wakings.new (woken + 1) ≡ lent_with (lent_in host.old adjustments.old wakings.old woken) (finished (world_in (lent_in host.old adjustments.old wakings.old woken)) at) }
 {
     let process = process_at(&*host, at);
     let outcome = looked.outcome;
     let values = looked.values;
     let undo = looked.undo;
-    settle(&mut *host, pool, at, outcome, values, undo);
+    settle(&mut *host, adjustments, at, outcome, values, undo);
     let position = decided(outcome, looked.position);
     note(wakings, woken, process, ending(outcome), position);
     take_out(host, at);
@@ -142,15 +141,15 @@ fn finish(
 // loop and started anew.
 fn wake_plain(
     host: &mut [u8; HOST_BYTES],
-    pool: &mut [u32; POOL],
+    adjustments: &mut [i16; ALL_ADJUSTMENTS],
     wakings: &mut [u8; WAKING_BYTES],
     slot: usize,
     start: Tally,
 ) -> Tally
     requires slot { IsSlot slot }
-    requires ready { Ready (lent_in host.old pool.old wakings.old start.woken) }
+    requires ready { Ready (lent_in host.old adjustments.old wakings.old start.woken) }
     requires looks_le_looks_max { start.looks ≤ looks_max }
-    ensures { left_in host.new pool.new wakings.new result ≡ plainly slot (lent_in host.old pool.old wakings.old start.woken) start.looks }
+    ensures { left_in host.new adjustments.new wakings.new result ≡ plainly slot (lent_in host.old adjustments.old wakings.old start.woken) start.looks }
 {
     let mut looks = start.looks;
     let mut woken = start.woken;
@@ -161,10 +160,17 @@ fn wake_plain(
             let process = process_at(&*host, i);
             if slot_at(&*host, process) == slot {
                 looks += 1;
-                let looked = look(&*host, &*pool, i);
+                let looked = look(&*host, &*adjustments, i);
                 let outcome = looked.outcome;
                 if finishes(outcome) {
-                    finish(&mut *host, &mut *pool, &mut *wakings, woken, i, looked);
+                    finish(
+                        &mut *host,
+                        &mut *adjustments,
+                        &mut *wakings,
+                        woken,
+                        i,
+                        looked,
+                    );
                     woken += 1;
                     continue 'rounds;
                 }
@@ -200,16 +206,16 @@ fn mark_touched(host: &[u8; HOST_BYTES], slot: usize, touched: u8, marks: u8) ->
 // round ends there.
 fn wake_quick(
     host: &mut [u8; HOST_BYTES],
-    pool: &mut [u32; POOL],
+    adjustments: &mut [i16; ALL_ADJUSTMENTS],
     wakings: &mut [u8; WAKING_BYTES],
     slot: usize,
     first: u8,
     start: Tally,
 ) -> Tally
     requires slot { IsSlot slot }
-    requires ready { Ready (lent_in host.old pool.old wakings.old start.woken) }
+    requires ready { Ready (lent_in host.old adjustments.old wakings.old start.woken) }
     requires looks_le_looks_max { start.looks ≤ looks_max }
-    ensures { left_in host.new pool.new wakings.new result ≡ quickly slot first (lent_in host.old pool.old wakings.old start.woken) start.looks }
+    ensures { left_in host.new adjustments.new wakings.new result ≡ quickly slot first (lent_in host.old adjustments.old wakings.old start.woken) start.looks }
 {
     let mut looks = start.looks;
     let mut woken = start.woken;
@@ -228,11 +234,18 @@ fn wake_quick(
                 if slot_at(&*host, process) == slot {
                     marks = marks ^ bit;
                     looks += 1;
-                    let looked = look(&*host, &*pool, i);
+                    let looked = look(&*host, &*adjustments, i);
                     let outcome = looked.outcome;
                     if finishes(outcome) {
                         let before = values_of(&*host, slot);
-                        finish(&mut *host, &mut *pool, &mut *wakings, woken, i, looked);
+                        finish(
+                            &mut *host,
+                            &mut *adjustments,
+                            &mut *wakings,
+                            woken,
+                            i,
+                            looked,
+                        );
                         woken += 1;
                         let touched = differing_mask(before, values_of(&*host, slot));
                         marks = mark_touched(&*host, slot, touched, marks);
@@ -252,7 +265,7 @@ fn wake_quick(
 // A set is treated by the engine's rule. Where nothing is touched nobody is marked, and the quick rule looks at nobody.
 pub fn wake(
     host: &mut [u8; HOST_BYTES],
-    pool: &mut [u32; POOL],
+    adjustments: &mut [i16; ALL_ADJUSTMENTS],
     wakings: &mut [u8; WAKING_BYTES],
     engine: Engine,
     slot: usize,
@@ -260,18 +273,18 @@ pub fn wake(
     start: Tally,
 ) -> Tally
     requires slot { IsSlot slot }
-    requires ready { Ready (lent_in host.old pool.old wakings.old start.woken) }
+    requires ready { Ready (lent_in host.old adjustments.old wakings.old start.woken) }
     requires looks_le_looks_max { start.looks ≤ looks_max }
-    ensures { left_in host.new pool.new wakings.new result ≡ treated engine slot touched (lent_in host.old pool.old wakings.old start.woken) start.looks }
+    ensures { left_in host.new adjustments.new wakings.new result ≡ treated engine slot touched (lent_in host.old adjustments.old wakings.old start.woken) start.looks }
 {
     match engine {
-        Engine::Plain => wake_plain(host, pool, wakings, slot, start),
+        Engine::Plain => wake_plain(host, adjustments, wakings, slot, start),
         Engine::Quick => {
             if touched == 0 {
                 return start;
             }
             let marks = mark_touched(&*host, slot, touched, 0);
-            wake_quick(host, pool, wakings, slot, marks, start)
+            wake_quick(host, adjustments, wakings, slot, marks, start)
         }
     }
 }
@@ -279,14 +292,14 @@ pub fn wake(
 // "every live set from slot 0 up"
 pub fn wake_all(
     host: &mut [u8; HOST_BYTES],
-    pool: &mut [u32; POOL],
+    adjustments: &mut [i16; ALL_ADJUSTMENTS],
     wakings: &mut [u8; WAKING_BYTES],
     engine: Engine,
     touched: [u8; SETS],
 ) -> Tally
-    requires ready { Ready (lent_in host.old pool.old wakings.old 0) }
+    requires ready { Ready (lent_in host.old adjustments.old wakings.old 0) }
     requires touched_len { length touched ≡ slots }
-    ensures { left_in host.new pool.new wakings.new result ≡ treated_from engine 0 touched (lent_in host.old pool.old wakings.old 0) 0 }
+    ensures { left_in host.new adjustments.new wakings.new result ≡ treated_from engine 0 touched (lent_in host.old adjustments.old wakings.old 0) 0 }
 {
     let mut tally = Tally { looks: 0, woken: 0 };
     let mut slot = 0;
@@ -295,7 +308,7 @@ pub fn wake_all(
         if 0 < set.count {
             tally = wake(
                 &mut *host,
-                &mut *pool,
+                &mut *adjustments,
                 &mut *wakings,
                 engine,
                 slot,

@@ -18,8 +18,8 @@ ghost use Rattle.vairolent.specs.Limits.{the_limits};
 
 use host::HOST_BYTES;
 use model::{
-    Engine, MODE_MAX, OPERATIONS, POOL, PROCESSES, Position, Queried, QueriedSet, SEMAPHORES, SETS,
-    Told, VALUE_MAX, WAKING_BYTES, Wait,
+    ALL_ADJUSTMENTS, Engine, MODE_MAX, OPERATIONS, PROCESSES, Position, Queried, QueriedSet,
+    SEMAPHORES, SETS, Told, VALUE_MAX, WAKING_BYTES, Wait,
 };
 
 // What a caller keeps and lends: a host's row of bytes, its undo adjustments, and a list for the wakings of an event.
@@ -27,7 +27,7 @@ use model::{
 #[derive(Drop)]
 pub struct Fresh {
     pub row: [u8; HOST_BYTES],
-    pub pool: [u32; POOL],
+    pub adjustments: [i16; ALL_ADJUSTMENTS],
     pub wakings: [u8; WAKING_BYTES],
 }
 
@@ -61,7 +61,7 @@ pub struct Limits {
     pub value_max: usize,
     pub mode_max: usize,
     pub row_bytes: usize,
-    pub pool: usize,
+    pub adjustments: usize,
 }
 
 #[unsafe(no_mangle)]
@@ -76,18 +76,18 @@ pub extern "C" fn vairolent_limits() -> Limits
         value_max: VALUE_MAX as usize,
         mode_max: MODE_MAX as usize,
         row_bytes: HOST_BYTES,
-        pool: POOL,
+        adjustments: ALL_ADJUSTMENTS,
     }
 }
 
 #[unsafe(no_mangle)]
 pub extern "C" fn vairolent_fresh() -> Fresh
-    ensures pool_value { host_in result.row result.pool ≡ host_of fresh_state }
+    ensures adjustments_value { host_in result.row result.adjustments ≡ host_of fresh_state }
     ensures wakings_value { places_in result.wakings ≡ list_of [] }
 {
     Fresh {
         row: host::fresh(),
-        pool: host::no_entries(),
+        adjustments: host::no_adjustments(),
         wakings: [0u8; WAKING_BYTES],
     }
 }
@@ -136,22 +136,22 @@ fn wait_of(waits: bool, wait: u32) -> Wait
 #[unsafe(no_mangle)]
 pub extern "C" fn vairolent_create_in(
     row: &mut [u8; HOST_BYTES],
-    pool: &mut [u32; POOL],
+    adjustments: &mut [i16; ALL_ADJUSTMENTS],
     wakings: &mut [u8; WAKING_BYTES],
     process: u8,
     count: u8,
     mode: u16,
 ) -> Reported
-    requires { Held (host_in row.old pool.old) }
-    ensures { handed_in row.new pool.new wakings.new result ≡ handed_of (after_of (do_create (state_in (host_in row.old pool.old)) process count mode)) }
+    requires { Held (host_in row.old adjustments.old) }
+    ensures { handed_in row.new adjustments.new wakings.new result ≡ handed_of (after_of (do_create (state_in (host_in row.old adjustments.old)) process count mode)) }
 {
-    report(service::create(row, pool, wakings, process, count, mode))
+    report(service::create(row, adjustments, wakings, process, count, mode))
 }
 
 #[unsafe(no_mangle)]
 pub extern "C" fn vairolent_operate_in(
     row: &mut [u8; HOST_BYTES],
-    pool: &mut [u32; POOL],
+    adjustments: &mut [i16; ALL_ADJUSTMENTS],
     wakings: &mut [u8; WAKING_BYTES],
     process: u8,
     identifier: i32,
@@ -159,12 +159,12 @@ pub extern "C" fn vairolent_operate_in(
     wait: u32,
     operations: &[u8],
 ) -> Reported
-    requires { Held (host_in row.old pool.old) }
-    ensures { handed_in row.new pool.new wakings.new result ≡ handed_of (after_of (do_operate (waker Quick) (state_in (host_in row.old pool.old)) process identifier (wait_by waits wait) operations.now)) }
+    requires { Held (host_in row.old adjustments.old) }
+    ensures { handed_in row.new adjustments.new wakings.new result ≡ handed_of (after_of (do_operate (waker Quick) (state_in (host_in row.old adjustments.old)) process identifier (wait_by waits wait) operations.now)) }
 {
     report(service::operate(
         row,
-        pool,
+        adjustments,
         wakings,
         Engine::Quick,
         process,
@@ -177,19 +177,19 @@ pub extern "C" fn vairolent_operate_in(
 #[unsafe(no_mangle)]
 pub extern "C" fn vairolent_set_value_in(
     row: &mut [u8; HOST_BYTES],
-    pool: &mut [u32; POOL],
+    adjustments: &mut [i16; ALL_ADJUSTMENTS],
     wakings: &mut [u8; WAKING_BYTES],
     process: u8,
     identifier: i32,
     number: u16,
     value: i32,
 ) -> Reported
-    requires { Held (host_in row.old pool.old) }
-    ensures { handed_in row.new pool.new wakings.new result ≡ handed_of (after_of (do_set_value (waker Quick) (state_in (host_in row.old pool.old)) process identifier number value)) }
+    requires { Held (host_in row.old adjustments.old) }
+    ensures { handed_in row.new adjustments.new wakings.new result ≡ handed_of (after_of (do_set_value (waker Quick) (state_in (host_in row.old adjustments.old)) process identifier number value)) }
 {
     report(service::set_value(
         row,
-        pool,
+        adjustments,
         wakings,
         Engine::Quick,
         process,
@@ -202,59 +202,59 @@ pub extern "C" fn vairolent_set_value_in(
 #[unsafe(no_mangle)]
 pub extern "C" fn vairolent_remove_in(
     row: &mut [u8; HOST_BYTES],
-    pool: &mut [u32; POOL],
+    adjustments: &mut [i16; ALL_ADJUSTMENTS],
     wakings: &mut [u8; WAKING_BYTES],
     process: u8,
     identifier: i32,
 ) -> Reported
-    requires { Held (host_in row.old pool.old) }
-    ensures { handed_in row.new pool.new wakings.new result ≡ handed_of (after_of (do_remove (state_in (host_in row.old pool.old)) process identifier)) }
+    requires { Held (host_in row.old adjustments.old) }
+    ensures { handed_in row.new adjustments.new wakings.new result ≡ handed_of (after_of (do_remove (state_in (host_in row.old adjustments.old)) process identifier)) }
 {
-    report(service::remove(row, pool, wakings, process, identifier))
+    report(service::remove(row, adjustments, wakings, process, identifier))
 }
 
 #[unsafe(no_mangle)]
 pub extern "C" fn vairolent_signal_in(
     row: &mut [u8; HOST_BYTES],
-    pool: &mut [u32; POOL],
+    adjustments: &mut [i16; ALL_ADJUSTMENTS],
     wakings: &mut [u8; WAKING_BYTES],
     process: u8,
 ) -> Reported
-    requires { Held (host_in row.old pool.old) }
-    ensures { handed_in row.new pool.new wakings.new result ≡ handed_of (after_of (do_signal (state_in (host_in row.old pool.old)) process)) }
+    requires { Held (host_in row.old adjustments.old) }
+    ensures { handed_in row.new adjustments.new wakings.new result ≡ handed_of (after_of (do_signal (state_in (host_in row.old adjustments.old)) process)) }
 {
-    report(service::signal(row, pool, wakings, process))
+    report(service::signal(row, adjustments, wakings, process))
 }
 
 #[unsafe(no_mangle)]
 pub extern "C" fn vairolent_exit_in(
     row: &mut [u8; HOST_BYTES],
-    pool: &mut [u32; POOL],
+    adjustments: &mut [i16; ALL_ADJUSTMENTS],
     wakings: &mut [u8; WAKING_BYTES],
     process: u8,
 ) -> Reported
-    requires { Held (host_in row.old pool.old) }
-    ensures { handed_in row.new pool.new wakings.new result ≡ handed_of (after_of (do_exit (waker Quick) (state_in (host_in row.old pool.old)) process)) }
+    requires { Held (host_in row.old adjustments.old) }
+    ensures { handed_in row.new adjustments.new wakings.new result ≡ handed_of (after_of (do_exit (waker Quick) (state_in (host_in row.old adjustments.old)) process)) }
 {
-    report(service::exit(row, pool, wakings, Engine::Quick, process))
+    report(service::exit(row, adjustments, wakings, Engine::Quick, process))
 }
 
 // The values stand in the bytes that are lent, four each, little-endian and signed, as a run file has them.
 #[unsafe(no_mangle)]
 pub extern "C" fn vairolent_set_all_in(
     row: &mut [u8; HOST_BYTES],
-    pool: &mut [u32; POOL],
+    adjustments: &mut [i16; ALL_ADJUSTMENTS],
     wakings: &mut [u8; WAKING_BYTES],
     process: u8,
     identifier: i32,
     values: &[u8],
 ) -> Reported
-    requires { Held (host_in row.old pool.old) }
-    ensures { handed_in row.new pool.new wakings.new result ≡ handed_of (after_of (do_set_all (waker Quick) (state_in (host_in row.old pool.old)) process identifier values.now)) }
+    requires { Held (host_in row.old adjustments.old) }
+    ensures { handed_in row.new adjustments.new wakings.new result ≡ handed_of (after_of (do_set_all (waker Quick) (state_in (host_in row.old adjustments.old)) process identifier values.now)) }
 {
     report(service::set_all(
         row,
-        pool,
+        adjustments,
         wakings,
         Engine::Quick,
         process,
@@ -266,54 +266,54 @@ pub extern "C" fn vairolent_set_all_in(
 #[unsafe(no_mangle)]
 pub extern "C" fn vairolent_clock_in(
     row: &mut [u8; HOST_BYTES],
-    pool: &mut [u32; POOL],
+    adjustments: &mut [i16; ALL_ADJUSTMENTS],
     wakings: &mut [u8; WAKING_BYTES],
     time: u64,
 ) -> Reported
-    requires { Held (host_in row.old pool.old) }
-    ensures { handed_in row.new pool.new wakings.new result ≡ handed_of (after_of (do_clock (state_in (host_in row.old pool.old)) time)) }
+    requires { Held (host_in row.old adjustments.old) }
+    ensures { handed_in row.new adjustments.new wakings.new result ≡ handed_of (after_of (do_clock (state_in (host_in row.old adjustments.old)) time)) }
 {
-    report(service::clock(row, pool, wakings, time))
+    report(service::clock(row, adjustments, wakings, time))
 }
 
 #[unsafe(no_mangle)]
 pub extern "C" fn vairolent_act_as_in(
     row: &mut [u8; HOST_BYTES],
-    pool: &mut [u32; POOL],
+    adjustments: &mut [i16; ALL_ADJUSTMENTS],
     wakings: &mut [u8; WAKING_BYTES],
     process: u8,
     user: u32,
     group: u32,
 ) -> Reported
-    requires { Held (host_in row.old pool.old) }
-    ensures { handed_in row.new pool.new wakings.new result ≡ handed_of (after_of (do_act_as (state_in (host_in row.old pool.old)) process user group)) }
+    requires { Held (host_in row.old adjustments.old) }
+    ensures { handed_in row.new adjustments.new wakings.new result ≡ handed_of (after_of (do_act_as (state_in (host_in row.old adjustments.old)) process user group)) }
 {
-    report(service::act_as(row, pool, wakings, process, user, group))
+    report(service::act_as(row, adjustments, wakings, process, user, group))
 }
 
 #[unsafe(no_mangle)]
 pub extern "C" fn vairolent_query_in(
     row: &[u8; HOST_BYTES],
-    pool: &[u32; POOL],
+    adjustments: &[i16; ALL_ADJUSTMENTS],
     process: u8,
     identifier: i32,
     number: u16,
 ) -> Queried
-    requires { Held (host_in row.now pool.now) }
-    ensures { result ≡ queried_of (do_query (state_in (host_in row.now pool.now)) process identifier number) }
+    requires { Held (host_in row.now adjustments.now) }
+    ensures { result ≡ queried_of (do_query (state_in (host_in row.now adjustments.now)) process identifier number) }
 {
-    service::query(row, pool, process, identifier, number)
+    service::query(row, adjustments, process, identifier, number)
 }
 
 #[unsafe(no_mangle)]
 pub extern "C" fn vairolent_query_set_in(
     row: &[u8; HOST_BYTES],
-    pool: &[u32; POOL],
+    adjustments: &[i16; ALL_ADJUSTMENTS],
     process: u8,
     identifier: i32,
 ) -> QueriedSet
-    requires { Held (host_in row.now pool.now) }
-    ensures { result ≡ query_set (state_in (host_in row.now pool.now)) process identifier }
+    requires { Held (host_in row.now adjustments.now) }
+    ensures { result ≡ query_set (state_in (host_in row.now adjustments.now)) process identifier }
 {
-    service::query_set(row, pool, process, identifier)
+    service::query_set(row, adjustments, process, identifier)
 }

@@ -3,16 +3,14 @@
 use std::fmt;
 
 use second::event::{OPERATION, VALUE};
-use second::{Event, ENTRIES, MODE_MAX, OPERATIONS};
+use second::{Event, MODE_MAX, OPERATIONS};
 
-use crate::array::undone;
 use crate::call::Call;
 use crate::choice::MAX;
 use crate::counts::{entries, lacking, of, Counts};
 use crate::events::EVENTS;
 use crate::line::Line;
-use crate::pairs::Pairs;
-use crate::world::{slot_of, Slot, World};
+use crate::world::{Slot, World};
 
 #[derive(Clone, Copy, Debug, PartialEq, Eq, PartialOrd, Ord)]
 pub enum Check {
@@ -27,13 +25,9 @@ pub enum Check {
     Permission,
     Number,
     Range,
-    /// In the pool of undo entries.
-    Room,
 }
 
-use Check::{
-    Asleep, Count, Empty, Many, Mode, Number, Permission, Process, Range, Room, Set, Slots,
-};
+use Check::{Asleep, Count, Empty, Many, Mode, Number, Permission, Process, Range, Set, Slots};
 
 /// A kind of event, a check that decided, and a later one that would refuse with another code.
 pub type Pair = ((u8, Check), Check);
@@ -50,7 +44,6 @@ fn order(kind: u8) -> &'static [(Check, i32)] {
             (Set, 22),
             (Number, 27),
             (Permission, 13),
-            (Room, 28),
         ],
         3 | 10 => {
             &[(Process, 3), (Asleep, 16), (Set, 22), (Permission, 13), (Number, 22), (Range, 34)]
@@ -94,11 +87,6 @@ fn refuses(world: &World, call: Call, check: Check) -> bool {
             number >= slot.count
         }
         (Number, Event::SetAll { values, .. }) => values.len() != VALUE * usize::from(slot.count),
-        (Room, Event::Operate { identifier, operations, .. }) => {
-            let own = undone(slot_of(identifier), operations);
-            let wanted = || world.in_use().or(Pairs::of(call.process, own));
-            process.is_some() && own != 0 && wanted().count() > ENTRIES as u32
-        }
         (Range, Event::SetValue { value, .. }) => !(0..=MAX).contains(&value),
         (Range, Event::SetAll { values, .. }) => {
             let value = |four: &[u8]| i32::from_le_bytes([four[0], four[1], four[2], four[3]]);
@@ -110,18 +98,13 @@ fn refuses(world: &World, call: Call, check: Check) -> bool {
 
 /// Was a call permitted that came so far and was answered as the rules say?
 pub fn permitted(world: &World, call: Call, line: &Line) -> Option<bool> {
-    passed(world, call, line, Permission)
-}
-
-/// Did a call pass a check, if it came so far and was answered as the rules say?
-pub fn passed(world: &World, call: Call, line: &Line, wanted: Check) -> Option<bool> {
     let checks = order(call.kind);
-    let place = checks.iter().position(|(check, _)| *check == wanted)?;
+    let place = checks.iter().position(|(check, _)| *check == Permission)?;
     if checks[..place].iter().any(|(check, _)| refuses(world, call, *check)) {
         return None;
     }
-    let refused = refuses(world, call, wanted);
-    (refused == (line.code.number == checks[place].1)).then_some(!refused)
+    let denied = refuses(world, call, Permission);
+    (denied == (line.code.number == checks[place].1)).then_some(!denied)
 }
 
 /// What a call shows: the check that decided, before each later one that has another code.
@@ -155,14 +138,10 @@ fn wanted() -> Vec<Wanted> {
     wanted
 }
 
-/// Can both refuse the same call? No process that there is not sleeps, may do something or needs
-/// room, and an empty array asks for nothing.
+/// Can both refuse the same call? No process that there is not sleeps or may do something, and an
+/// empty array asks for nothing.
 fn meet(first: Check, later: Check) -> bool {
-    let never = matches!(
-        (first, later),
-        (Process, Asleep | Permission | Room) | (Empty, Many | Number | Permission | Room)
-    );
-    !never
+    !matches!((first, later), (Process, Asleep | Permission) | (Empty, Many | Number | Permission))
 }
 
 /// Each kind and check with those behind it.

@@ -35,7 +35,7 @@ pub const EVENTS: [EventKind; 12] = [
         number: 2,
         name: "operate",
         asks: false,
-        codes: &[0, -1, 3, 7, 11, 13, 16, 22, 27, 28, 34],
+        codes: &[0, -1, 3, 7, 11, 13, 16, 22, 27, 34],
         wakings: &[0, 11, 34],
         small: |rng| event::operate(1, 0, &vec![(0, 1, 0); rng.below(10)]),
         drawn: |field, operations| {
@@ -94,7 +94,7 @@ pub const EVENTS: [EventKind; 12] = [
         number: 8,
         name: "timed operate",
         asks: false,
-        codes: &[0, -1, 3, 7, 11, 13, 16, 22, 27, 28, 34],
+        codes: &[0, -1, 3, 7, 11, 13, 16, 22, 27, 34],
         wakings: &[0, 11, 34],
         small: |rng| event::timed_operate(1, 0, 1, &vec![(0, 1, 0); rng.below(10)]),
         drawn: |field, operations| {

@@ -17,10 +17,10 @@ pub enum Length {
 
 /// Those at the limit, with their names and the codes that have to come.
 pub const LENGTHS: [(Length, &str, &[i32]); 8] = [
-    (Length::Called(32), "operate of 32 with", &[-1, 0, 11, 28, 34]),
+    (Length::Called(32), "operate of 32 with", &[-1, 0, 11, 34]),
     (Length::Called(33), "operate of 33 with", &[7]),
     (Length::Called(255), "operate of 255 with", &[7]),
-    (Length::Timed(32), "timed, of 32 with", &[-1, 0, 11, 28, 34]),
+    (Length::Timed(32), "timed, of 32 with", &[-1, 0, 11, 34]),
     (Length::Timed(33), "timed, of 33 with", &[7]),
     (Length::Timed(255), "timed, of 255 with", &[7]),
     (Length::Asleep(32), "waking of 32 with", &[0, 11, 34]),

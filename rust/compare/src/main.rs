@@ -2,7 +2,6 @@
 
 #![forbid(unsafe_code)]
 
-mod array;
 mod call;
 mod check;
 mod checks;
@@ -16,9 +15,7 @@ mod end;
 mod events;
 mod everyday;
 mod faults;
-mod freed;
 mod grants;
-mod holdings;
 mod kind;
 mod lengths;
 mod line;
@@ -26,14 +23,11 @@ mod long;
 mod medley;
 mod modes;
 mod options;
-mod pairs;
-mod pool;
 mod positions;
 mod program;
 mod random;
 mod refusal;
 mod rights;
-mod room;
 mod scene;
 mod script;
 mod standing;

@@ -6,14 +6,13 @@ use crate::kind::Kind;
 use crate::kind::Make::Script;
 use crate::long;
 use crate::modes;
-use crate::pool;
 use crate::scene::Scene;
 use crate::script;
 use crate::values;
 
 pub static MEDLEY: Kind = Kind::new("medley", Script(play), "episodes of all the scripts below");
 
-pub static SCRIPTS: [Kind; 20] = [
+pub static SCRIPTS: [Kind; 19] = [
     Kind::new("mixed", Script(script::mixed), "everyday traffic"),
     Kind::new("dense", Script(script::dense), "seven and eight asleep, and what wakes them"),
     Kind::new("chains", Script(script::chain), "wake chains as in situation 11"),
@@ -36,11 +35,6 @@ pub static SCRIPTS: [Kind; 20] = [
         "modes",
         Script(modes::modes),
         "owners, groups and modes, and callers of every class",
-    ),
-    Kind::new(
-        "pool",
-        Script(pool::pool),
-        "nearly all undo entries in use, and calls that need some",
     ),
 ];
 

@@ -2,7 +2,6 @@
 //! one byte, and every two mistakes.
 
 use second::event::{self, Body, Operation};
-use second::UNDO;
 
 /// Owner and owning group of the sets here, and the number of somebody else.
 const OWNER: u32 = 7;
@@ -59,17 +58,13 @@ pub fn alike() -> Vec<Body> {
 }
 
 /// Every two mistakes by nobody, by a process asleep and by one that is denied; then those that are
-/// left for the owner. User 0 has all undo entries in use.
+/// left for the owner.
 pub fn mistakes() -> Vec<Body> {
     let (nobody, asleep) = (9, 3);
     let mut bodies = vec![event::act_as(CREATOR, OWNER, GROUP)];
     bodies.extend([0o600, 0o600, 0o600, 0o666].map(|mode| event::create(CREATOR, 2, mode)));
     bodies.extend([asleep, CALLER].map(|process| event::act_as(process, STRANGER, STRANGER)));
-    bodies.push(event::operate(asleep, 3, &[(0, -9, 0)]));
-    for holder in 4..8 {
-        let held = [(0, 1, UNDO), (1, 1, UNDO)];
-        bodies.extend((0..4).map(|id| event::operate(holder, id, &held)));
-    }
+    bodies.push(event::operate(asleep, 3, &[(0, -1, 0)]));
     bodies.extend([nobody, asleep, CALLER, CREATOR].iter().flat_map(|&process| calls(process)));
     bodies
 }
@@ -79,11 +74,9 @@ fn calls(process: u8) -> Vec<Body> {
     let modes = [(0, 0o666), (1, 0o1000), (1, 0o666)];
     let mut bodies = modes.map(|(count, mode)| event::create(process, count, mode)).to_vec();
     let (good, bad) = ([(0, 1, 0); 33], [(2, 0, 0); 33]);
-    let (undone, beyond) = ([(0, 1, UNDO); 33], [(2, 1, UNDO)]);
     let values: [&[i32]; 4] = [&[0, 0], &[0], &[0, -1], &[-1]];
     for id in [4, 0] {
-        let without_undo = [&good[..0], &good[..1], &good, &bad[..1], &bad];
-        for array in without_undo.into_iter().chain([&undone[..1], &undone, &beyond]) {
+        for array in [&good[..0], &good[..1], &good, &bad[..1], &bad] {
             bodies.push(event::operate(process, id, array));
             bodies.push(event::timed_operate(process, id, 0, array));
         }

@@ -2,7 +2,7 @@
 //! what is there.
 
 use second::event::{self, Body};
-use second::{Answer, Credentials, Entry, Event, Host, Report, Rule, Waking, ENTRIES, ENTRY, HEAD};
+use second::{Answer, Credentials, Event, Host, Report, Rule, Waking, ENTRY, HEAD};
 
 use crate::random::Rng;
 
@@ -28,12 +28,6 @@ pub struct Target {
     pub group: u32,
     /// Every process may read and alter.
     pub open: bool,
-}
-
-impl Target {
-    fn is_in(&self, slot: i32) -> bool {
-        self.identifier & 3 == slot
-    }
 }
 
 impl Scene {
@@ -198,30 +192,6 @@ impl Scene {
     /// The times at which waits of sleepers are over.
     pub fn ends(&self) -> Vec<u64> {
         self.host.ends().collect()
-    }
-
-    /// How many undo entries are left.
-    pub fn free(&self) -> usize {
-        ENTRIES - self.host.entries().count()
-    }
-
-    /// The semaphores of a set for which a process has no undo entry in use.
-    pub fn unused(&self, process: u8, target: &Target) -> Vec<u16> {
-        let own =
-            |entry: &&Entry| entry.process.number() == process && target.is_in(entry.slot.into());
-        let used: Vec<u8> = self.host.entries().filter(own).map(|entry| entry.number).collect();
-        (0..target.values.len() as u8)
-            .filter(|number| !used.contains(number))
-            .map(u16::from)
-            .collect()
-    }
-
-    /// Any undo entry in use, and its set.
-    pub fn entry(&mut self) -> Option<(Entry, Target)> {
-        let entries: Vec<Entry> = self.host.entries().copied().collect();
-        let entry = (!entries.is_empty()).then(|| self.rng.pick(&entries))?;
-        let target = self.targets().into_iter().find(|target| target.is_in(entry.slot.into()))?;
-        Some((entry, target))
     }
 
     pub fn is_asleep(&self, process: u8) -> bool {

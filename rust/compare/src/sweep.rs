@@ -14,7 +14,6 @@ use crate::deciding::deciding;
 use crate::events::{callerless, unknown, EVENTS};
 use crate::long::long;
 use crate::modes::modes;
-use crate::pool::pool;
 use crate::random::Rng;
 use crate::rights;
 use crate::scene::{Scene, OPEN};
@@ -160,7 +159,7 @@ fn chains() -> Vec<Body> {
 /// whole sets, of waits, and of who may do what.
 fn largest() -> impl Iterator<Item = Vec<u8>> {
     let arrays = [long, deciding, deciding, deciding, deciding];
-    let others = [whole, whole, same_value, timed, timed, modes, modes, pool, pool];
+    let others = [whole, whole, same_value, timed, timed, modes, modes];
     let full = |(script, file)| run_file(&Scene::played(script, Rng::new(0, file), FILE_MAX));
     arrays.into_iter().chain(others).zip(0..).map(full)
 }

@@ -11,7 +11,6 @@ use crate::grants::{self, Grant};
 use crate::lengths::{Length, Lengths, LENGTHS};
 use crate::line::Line;
 use crate::positions::{Decision, Positions, DECISIONS};
-use crate::room::{Room, Rooms, ROOMS};
 use crate::standing::{self, Standing, STANDINGS};
 use crate::waits::{Wait, Waits, WAITS};
 use crate::wholes::{Whole, Wholes, WHOLES};
@@ -53,8 +52,6 @@ pub struct Tally {
     standings: Counts<(Standing, i32)>,
     /// Which of two checks decided.
     checks: Counts<Pair>,
-    /// How calls stood to the pool of undo entries.
-    rooms: Counts<(Room, i32)>,
 }
 
 fn no_line(text: &str) -> Difference {
@@ -77,14 +74,12 @@ impl Tally {
         } else if let Ok(run) = RunFile::read(file) {
             let (mut zeros, mut positions) = (Zeros::default(), Positions::default());
             let (mut lengths, mut wholes) = (Lengths::default(), Wholes::default());
-            let (mut waits, mut rooms) = (Waits::default(), Rooms::default());
-            let mut world = World::default();
+            let (mut waits, mut world) = (Waits::default(), World::default());
             for ((body, event), (quick, plain)) in run.bodies().zip(run.events()).zip(lines) {
                 let quick = Line::read(quick).ok_or_else(|| no_line(quick))?;
                 let plain = Line::read(plain).ok_or_else(|| no_line(plain))?;
                 self.add_line(events::place(body), &quick, &plain)?;
                 self.add_call(&world, event, &quick);
-                count_each(&mut self.rooms, rooms.follow(&world, event, &quick));
                 world.follow(event, &quick);
                 count_each(&mut self.decided, positions.follow(event, &quick));
                 count_each(&mut self.lengths, lengths.follow(event, &quick));
@@ -147,7 +142,6 @@ impl Tally {
         add_all(&mut self.grants, other.grants);
         add_all(&mut self.standings, other.standings);
         add_all(&mut self.checks, other.checks);
-        add_all(&mut self.rooms, other.rooms);
     }
 
     /// The whole count as a table.
@@ -187,14 +181,13 @@ impl Tally {
         decided.chain(lengths).chain(wholes).chain(rows(&self.waits, &WAITS)).collect()
     }
 
-    /// Who may do what, which check comes first, and who has room in the pool.
+    /// Who may do what, and which check comes first.
     fn call_rows(&self) -> Vec<(String, String)> {
         let standings = rows(&self.standings, &STANDINGS);
         grants::rows(&self.grants)
             .into_iter()
             .chain(standings)
             .chain(checks::rows(&self.checks))
-            .chain(rows(&self.rooms, &ROOMS))
             .collect()
     }
 
@@ -221,7 +214,6 @@ impl Tally {
         missing.extend(lacking_rows(&self.wholes, &WHOLES));
         missing.extend(lacking_rows(&self.waits, &WAITS));
         missing.extend(self.missing_rights());
-        missing.extend(lacking_rows(&self.rooms, &ROOMS));
         let whens = WHENS.iter().filter(|(when, _)| !self.by_zero.contains_key(when));
         missing.extend(whens.map(|(_, name)| format!("a last process set by 0 {name}")));
         let bad = BAD.iter().filter(|code| !self.bad.contains_key(code));
@@ -276,9 +268,9 @@ mod tests {
     use second::{replay, run_file, Rule};
 
     /// The files that every seed has show all decisions and lengths, all of whole sets and of waits,
-    /// who may do what, and who has room in the pool.
+    /// and who may do what.
     #[test]
-    fn the_sweep_reaches_all_of_arrays_sets_waits_rights_and_room() {
+    fn the_sweep_reaches_all_of_arrays_sets_waits_and_rights() {
         let mut tally = Tally::default();
         for file in sweep::files() {
             let [quick, plain] = [Rule::Quick, Rule::Plain].map(|rule| replay(&file, rule));
@@ -288,7 +280,6 @@ mod tests {
         assert_eq!(lacking_rows(&tally.wholes, &WHOLES), [""; 0]);
         assert_eq!(lacking_rows(&tally.waits, &WAITS), [""; 0]);
         assert_eq!(tally.missing_rights(), [""; 0]);
-        assert_eq!(lacking_rows(&tally.rooms, &ROOMS), [""; 0]);
     }
 
     #[test]

@@ -43,7 +43,7 @@ pub const WAITS: [(Wait, &str, &[i32]); 17] = [
     (Wait::Later, "later time with", &[0]),
     (Wait::Largest, "largest time with", &[0]),
     (Wait::Above, "time above it with", &[22]),
-    (Wait::Of(0), "wait of 0 with", &[0, 3, 7, 11, 13, 16, 22, 27, 28, 34]),
+    (Wait::Of(0), "wait of 0 with", &[0, 3, 7, 11, 13, 16, 22, 27, 34]),
     (Wait::Of(1), "wait of 1 with", &[-1, 0, 34]),
     (Wait::Of(u32::MAX), "longest wait with", &[-1, 0, 34]),
     (Wait::Woken, "timed, woken with", &[0, 4, 11, 34, 43]),

@@ -1,20 +1,15 @@
 //! What the lines of a file tell of its processes and sets.
 
-use second::event::VALUE;
 use second::{Credentials, Event};
 
-use crate::array::{operations, undone};
 use crate::class::Rights;
-use crate::holdings::Holdings;
 use crate::line::Line;
-use crate::pairs::Pairs;
 
 #[derive(Default)]
 pub struct World<'a> {
     /// By their numbers; there is no process 0.
     processes: [Process<'a>; 9],
     slots: [Slot; 4],
-    pub holdings: Holdings,
 }
 
 #[derive(Clone, Copy, Default)]
@@ -55,17 +50,8 @@ impl<'a> World<'a> {
         self.processes.iter().filter(|process| process.asleep.is_some()).count()
     }
 
-    /// The undo entries in use: for what is held, and for what sleepers may come to hold.
-    pub fn in_use(&self) -> Pairs {
-        let kept = self.processes.map(|process| {
-            process.asleep.map_or(0, |(identifier, array)| undone(slot_of(identifier), array))
-        });
-        self.holdings.held().or(Pairs::new(kept))
-    }
-
     /// Follows one event.
     pub fn follow(&mut self, event: Event<'a>, line: &Line) {
-        self.hold(event, line);
         match (event, line.code.number, &line.numbers[..]) {
             (Event::Create { process, count, mode }, 0, [identifier, ..]) => {
                 self.create(process, count, mode, *identifier);
@@ -94,36 +80,6 @@ impl<'a> World<'a> {
         }
     }
 
-    /// Follows values and adjustments, while those who are woken still sleep.
-    fn hold(&mut self, event: Event, line: &Line) {
-        let holdings = &mut self.holdings;
-        match event {
-            _ if line.code.number != 0 => {}
-            Event::Operate { process, identifier, operations: array, .. } => {
-                holdings.apply(process, slot_of(identifier), operations(array));
-            }
-            Event::SetValue { identifier, number, value, .. } => {
-                holdings.set(slot_of(identifier), number.into(), value);
-            }
-            Event::SetAll { identifier, values, .. } => {
-                for (number, four) in values.chunks_exact(VALUE).enumerate() {
-                    let value = i32::from_le_bytes([four[0], four[1], four[2], four[3]]);
-                    holdings.set(slot_of(identifier), number, value);
-                }
-            }
-            Event::Remove { identifier, .. } => {
-                (0..8).for_each(|number| holdings.set(slot_of(identifier), number, 0));
-            }
-            Event::Exit { process } => holdings.exit(process),
-            _ => {}
-        }
-        for (process, _) in line.wakings.iter().filter(|(_, code)| code.number == 0) {
-            if let Some((identifier, array)) = self.processes[usize::from(*process)].asleep {
-                holdings.apply(*process, slot_of(identifier), operations(array));
-            }
-        }
-    }
-
     fn create(&mut self, creator: u8, count: u8, mode: u16, identifier: i32) {
         let Credentials { user, group } = self.processes[usize::from(creator)].acts_as;
         let slot = &mut self.slots[slot_of(identifier)];
@@ -137,6 +93,6 @@ impl<'a> World<'a> {
     }
 }
 
-pub fn slot_of(identifier: i32) -> usize {
+fn slot_of(identifier: i32) -> usize {
     (identifier & 3) as usize
 }

@@ -295,7 +295,6 @@ impl Event {
             (Event::Operate { .. } | Event::Remove { .. } | Event::ReadAll { .. }, 22) => NO_SET,
             (Event::Operate { .. }, 7) => "too many operations",
             (Event::Operate { .. }, 27) => "the set has no such semaphore",
-            (Event::Operate { .. }, 28) => "over 32 undo entries would be in use",
             (Event::Operate { operations, wait: Some(0), .. }, 11)
                 if !nowait_at(operations, position) =>
             {

@@ -180,20 +180,6 @@ mod tests {
         }
     }
 
-    /// A create finds no slot, an operate no undo entry; no other event is refused so.
-    #[test]
-    fn what_has_no_room() {
-        let entries = ", over 32 undo entries would be in use";
-        for (line, wanted) in [
-            ("create 1 by=1", ", no slot is free"),
-            ("operate 1 set=0 0:-1/undo", entries),
-            ("operate 1 set=0 wait=0 0:-1/undo", entries),
-            ("remove 0 by=1", ""),
-        ] {
-            assert_eq!(told(&event(line), 28, None, ""), format!("refused: ENOSPC (28){wanted}"));
-        }
-    }
-
     /// Who waits is told only where somebody does.
     #[test]
     fn readings_semaphore_by_semaphore() {

@@ -4,12 +4,11 @@ use crate::answer::{Answer, Reading, Report, State, ASLEEP};
 use crate::clock::{Wait, TIME_MAX};
 use crate::errno::Errno;
 use crate::event::Event;
-use crate::host::{identifier, Host};
+use crate::host::{identifier, Host, SLOTS};
 use crate::judge::{Outcome, SEMAPHORES, VALUE_MAX};
 use crate::permission::{Credentials, ALTER, MODE_MAX, READ};
-use crate::pool::Entry;
 use crate::process::Process;
-use crate::set::{Set, SLOTS};
+use crate::set::Set;
 
 impl Host {
     pub fn handle(&mut self, event: &Event) -> Answer {
@@ -63,13 +62,7 @@ impl Host {
         let slot = self.find(identifier)?;
         let array = &self.queue.call(process).array;
         self.credentials[process.index()].admit(&self.sets[slot], array)?;
-        self.pool.reserve(process, slot, array.undoes())?;
-        let (outcome, touched) = self.perform(process, slot);
-        let falls_asleep = matches!(outcome, Outcome::Sleep(_)) && wait != Some(0);
-        // A sleeper keeps its entries.
-        if !falls_asleep {
-            self.pool.release(process);
-        }
+        let (outcome, touched) = self.sets[slot].perform(process, array);
         match outcome {
             Outcome::Refused(errno, position) => {
                 Ok(Report::decided_at(position, errno.number().into()))
@@ -79,7 +72,7 @@ impl Host {
                 Ok(Report::decided_at(position, Errno::Eagain.number().into()))
             }
             Outcome::Sleep(position) => {
-                let names = self.queue.call(process).array.names();
+                let names = array.names();
                 let wait = Wait { start: self.time, length: wait };
                 self.queue.push(process, slot, names, wait);
                 Ok(Report::decided_at(position, ASLEEP))
@@ -103,7 +96,9 @@ impl Host {
         // Touched even where the value is the same, since the adjustments may not be.
         let touched = 1 << number;
         set.values[number] = value;
-        self.pool.clear(slot, touched);
+        for adjustments in &mut set.adjustments {
+            adjustments[number] = 0;
+        }
         Ok(self.treated(slot, touched))
     }
 
@@ -113,10 +108,9 @@ impl Host {
         self.credentials[remover.index()].permit_removal(&self.sets[slot])?;
         let generation = self.sets[slot].generation.wrapping_add(1);
         self.sets[slot] = Set { generation, ..Set::FREE };
-        self.pool.clear(slot, u8::MAX);
         let mut report = Report::default();
-        while let Some(process) = self.queue.oldest_of_set(slot) {
-            self.end(process, Errno::Eidrm.number(), None, &mut report);
+        while let Some(process) = self.queue.take_oldest_of_set(slot) {
+            report.wakings.push(process, Errno::Eidrm.number(), None);
         }
         Ok(report)
     }
@@ -124,8 +118,8 @@ impl Host {
     fn signal(&mut self, process: u8) -> Result<Report, Errno> {
         let process = Process::new(process)?;
         let mut report = Report::default();
-        if self.queue.is_asleep(process) {
-            self.end(process, Errno::Eintr.number(), None, &mut report);
+        if self.queue.take_out(process) {
+            report.wakings.push(process, Errno::Eintr.number(), None);
         }
         Ok(report)
     }
@@ -136,12 +130,8 @@ impl Host {
         let mut report = Report::default();
         self.queue.take_out(process);
         let mut touched = [0; SLOTS];
-        for Entry { slot, number, adjustment, .. } in self.pool.take(process) {
-            let (slot, number) = (usize::from(slot), usize::from(number));
-            let value = &mut self.sets[slot].values[number];
-            let before = *value;
-            *value = (before + adjustment).clamp(0, VALUE_MAX);
-            touched[slot] |= u8::from(*value != before) << number;
+        for (slot, set) in self.sets.iter_mut().enumerate() {
+            touched[slot] = set.undo(process);
         }
         for (slot, touched) in touched.into_iter().enumerate() {
             if self.sets[slot].is_live() {
@@ -158,7 +148,7 @@ impl Host {
             State { value: set.values[index], last: set.last[index], ..State::default() };
         // Only who names the semaphore can stop there.
         for (process, sleeper) in self.queue.naming(slot, 1 << index) {
-            if let Outcome::Sleep(stop) = self.outcome(process, sleeper) {
+            if let Outcome::Sleep(stop) = set.outcome(process, &sleeper.array) {
                 let operation = sleeper.array.at(stop);
                 let bit = if operation.number == number { process.bit() } else { 0 };
                 if operation.amount < 0 {
@@ -178,8 +168,8 @@ impl Host {
         }
         self.time = time;
         let mut report = Report::default();
-        while let Some(process) = self.queue.oldest_over(time) {
-            self.end(process, Errno::Eagain.number(), None, &mut report);
+        while let Some(process) = self.queue.take_oldest_over(time) {
+            report.wakings.push(process, Errno::Eagain.number(), None);
         }
         Ok(report)
     }
@@ -188,9 +178,7 @@ impl Host {
         let slot = self.open(process, identifier, ALTER)?;
         self.sets[slot].set_all(values)?;
         // Every semaphore is touched, even where its value is the same.
-        let all = u8::MAX;
-        self.pool.clear(slot, all);
-        Ok(self.treated(slot, all))
+        Ok(self.treated(slot, u8::MAX))
     }
 
     /// The whole set at once: each of its sleepers is judged, and waits at the semaphore where it
@@ -202,7 +190,7 @@ impl Host {
         let mut reading = Reading { count, values, last, ..Reading::default() };
         for (process, sleeper) in self.queue.of_set(slot) {
             reading.judged += 1;
-            if let Outcome::Sleep(stop) = self.outcome(process, sleeper) {
+            if let Outcome::Sleep(stop) = set.outcome(process, &sleeper.array) {
                 let stopped = sleeper.array.at(stop);
                 let waiters = if stopped.amount < 0 {
                     &mut reading.for_increase

@@ -1,12 +1,12 @@
 //! The host: what it holds.
 
 use crate::errno::Errno;
-use crate::judge::Outcome;
 use crate::permission::Credentials;
-use crate::pool::{Entry, Pool};
 use crate::process::{Process, PROCESSES};
-use crate::queue::{Queue, Sleeper};
-use crate::set::{Set, SLOTS};
+use crate::queue::Queue;
+use crate::set::Set;
+
+pub const SLOTS: usize = 4;
 
 /// The rule by which a host looks at its sleepers.
 #[derive(Clone, Copy, Debug, PartialEq, Eq)]
@@ -20,7 +20,6 @@ pub struct Host {
     pub(crate) rule: Rule,
     pub(crate) sets: [Set; SLOTS],
     pub(crate) queue: Queue,
-    pub(crate) pool: Pool,
     /// By process.
     pub(crate) credentials: [Credentials; PROCESSES],
     /// The time last told.
@@ -34,7 +33,6 @@ impl Host {
             rule,
             sets: [Set::FREE; SLOTS],
             queue: Queue::new(),
-            pool: Pool::default(),
             credentials: [Credentials::default(); PROCESSES],
             time: 0,
         }
@@ -49,11 +47,6 @@ impl Host {
     /// The processes asleep, as a mask.
     pub fn asleep(&self) -> u8 {
         self.queue.asleep()
-    }
-
-    /// The undo entries in use.
-    pub fn entries(&self) -> impl Iterator<Item = &Entry> {
-        self.pool.entries()
     }
 
     /// Who each process acts as, process 1 first.
@@ -74,7 +67,7 @@ impl Host {
     /// The process that makes a call, which it can while it is awake.
     pub(crate) fn caller(&self, number: u8) -> Result<Process, Errno> {
         let process = Process::new(number)?;
-        if self.queue.is_asleep(process) {
+        if self.queue.asleep() & process.bit() != 0 {
             return Err(Errno::Ebusy);
         }
         Ok(process)
@@ -110,25 +103,6 @@ impl Host {
         } else {
             Err(Errno::Einval)
         }
-    }
-
-    /// Judges the last call of a process, which is on the set in this slot and has its entries
-    /// reserved. If every operation goes through, the result is kept; the mask is that of the
-    /// semaphores whose value is another now.
-    pub(crate) fn perform(&mut self, process: Process, slot: usize) -> (Outcome, u8) {
-        let array = &self.queue.call(process).array;
-        let mut held = self.pool.row(process, slot);
-        let (outcome, changed) = self.sets[slot].perform(process, array, &mut held);
-        if outcome == Outcome::Done {
-            self.pool.store(process, slot, &held);
-        }
-        (outcome, changed)
-    }
-
-    /// How the array of a sleeper would end on the present state.
-    pub(crate) fn outcome(&self, process: Process, sleeper: &Sleeper) -> Outcome {
-        let held = self.pool.row(process, sleeper.slot);
-        self.sets[sleeper.slot].outcome(&sleeper.array, held)
     }
 }
 

@@ -40,14 +40,11 @@ pub enum Outcome {
     Refused(Errno, Position),
 }
 
-/// What one process holds at each semaphore of a set: its undo adjustments.
-pub type Row = [i32; SEMAPHORES];
-
 /// The copy on which an array is judged: the set's values and the caller's adjustments.
 #[derive(Clone, Copy, Debug)]
 pub struct Trial {
     pub values: [i32; SEMAPHORES],
-    pub adjustments: Row,
+    pub adjustments: [i32; SEMAPHORES],
 }
 
 impl Operation {
@@ -90,17 +87,6 @@ impl Array {
     /// The semaphores that the array names, as a mask. Their numbers are known to be below 8.
     pub fn names(&self) -> u8 {
         self.operations().iter().fold(0, |mask, operation| mask | 1 << operation.number)
-    }
-
-    /// Those that it names with SEM_UNDO and an amount other than 0: their adjustments may change.
-    pub fn undoes(&self) -> u8 {
-        let mut undoes = 0;
-        for operation in self.operations() {
-            if operation.flags & SEM_UNDO != 0 && operation.amount != 0 {
-                undoes |= 1 << operation.number;
-            }
-        }
-        undoes
     }
 }
 

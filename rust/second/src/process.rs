@@ -5,7 +5,7 @@ use crate::errno::Errno;
 pub const PROCESSES: usize = 8;
 
 /// A process, kept as its index 0 to 7; its number is one higher.
-#[derive(Clone, Copy, Debug, Default, PartialEq, Eq)]
+#[derive(Clone, Copy, Debug, PartialEq, Eq)]
 pub struct Process(u8);
 
 impl Process {

@@ -40,10 +40,6 @@ impl Queue {
         self.asleep
     }
 
-    pub fn is_asleep(&self, process: Process) -> bool {
-        self.asleep & process.bit() != 0
-    }
-
     /// Reads the operations of a call by a process that is awake.
     pub fn read(&mut self, process: Process, bytes: &[u8]) -> Result<(), Errno> {
         self.calls[process.index()].array.read(bytes)
@@ -59,12 +55,14 @@ impl Queue {
         call.wait = wait;
     }
 
-    /// Takes the process out, if it is asleep.
-    pub fn take_out(&mut self, process: Process) {
-        if self.is_asleep(process) {
+    /// Takes the process out; says whether it was asleep.
+    pub fn take_out(&mut self, process: Process) -> bool {
+        let was_asleep = self.asleep & process.bit() != 0;
+        if was_asleep {
             self.order.retain(|&other| other != process);
             self.asleep &= !process.bit();
         }
+        was_asleep
     }
 
     /// The process at this place of the order, 0 being the oldest.
@@ -84,14 +82,18 @@ impl Queue {
             .filter(move |(_, sleeper)| sleeper.slot == slot)
     }
 
-    pub fn oldest_of_set(&self, slot: usize) -> Option<Process> {
-        self.of_set(slot).next().map(|(oldest, _)| oldest)
+    pub fn take_oldest_of_set(&mut self, slot: usize) -> Option<Process> {
+        let (oldest, _) = self.of_set(slot).next()?;
+        self.take_out(oldest);
+        Some(oldest)
     }
 
-    /// The oldest of those whose wait is over by this time.
-    pub fn oldest_over(&self, time: u64) -> Option<Process> {
+    /// Takes out the oldest of those whose wait is over by this time.
+    pub fn take_oldest_over(&mut self, time: u64) -> Option<Process> {
         let mut sleepers = self.order.iter().copied();
-        sleepers.find(|&process| self.call(process).wait.is_over(time))
+        let oldest = sleepers.find(|&process| self.call(process).wait.is_over(time))?;
+        self.take_out(oldest);
+        Some(oldest)
     }
 
     /// The times at which waits are over, the oldest sleeper's first.

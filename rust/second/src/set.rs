@@ -2,11 +2,8 @@
 
 use crate::errno::Errno;
 use crate::event::VALUE;
-use crate::judge::{Array, Outcome, Row, Trial, SEMAPHORES, VALUE_MAX};
-use crate::process::Process;
-
-/// Sets that can be live at once.
-pub const SLOTS: usize = 4;
+use crate::judge::{Array, Outcome, Trial, SEMAPHORES, VALUE_MAX};
+use crate::process::{Process, PROCESSES};
 
 /// A slot and the set in it. In a free slot every number but the generation is 0.
 #[derive(Clone, Debug)]
@@ -21,6 +18,8 @@ pub struct Set {
     pub values: [i32; SEMAPHORES],
     /// The process number of the last operation on each semaphore.
     pub last: [u8; SEMAPHORES],
+    /// The undo adjustments, by process and semaphore.
+    pub adjustments: [[i32; SEMAPHORES]; PROCESSES],
 }
 
 impl Set {
@@ -32,6 +31,7 @@ impl Set {
         mode: 0,
         values: [0; SEMAPHORES],
         last: [0; SEMAPHORES],
+        adjustments: [[0; SEMAPHORES]; PROCESSES],
     };
 
     pub fn is_live(&self) -> bool {
@@ -43,7 +43,8 @@ impl Set {
         (number < u16::from(self.count)).then(|| usize::from(number))
     }
 
-    /// Sets all values, which come as bytes. There has to be one in range for each semaphore.
+    /// Sets all values, which come as bytes, and forgets what any process holds. There has to be
+    /// one in range for each semaphore.
     pub fn set_all(&mut self, bytes: &[u8]) -> Result<(), Errno> {
         if bytes.len() != VALUE * usize::from(self.count) {
             return Err(Errno::Einval);
@@ -56,30 +57,46 @@ impl Set {
             return Err(Errno::Erange);
         }
         self.values = values;
+        self.adjustments = Set::FREE.adjustments;
         Ok(())
     }
 
-    /// How the array of a process that holds this would end on the present state, which stays as it
-    /// is.
-    pub fn outcome(&self, array: &Array, held: Row) -> Outcome {
-        Trial { values: self.values, adjustments: held }.judge(array.operations())
+    fn trial_for(&self, process: Process) -> Trial {
+        Trial { values: self.values, adjustments: self.adjustments[process.index()] }
     }
 
-    /// Judges the array and, if every operation goes through, keeps the result, with what the
-    /// process holds then. Also gives the mask of the semaphores whose value is another now.
-    pub fn perform(&mut self, process: Process, array: &Array, held: &mut Row) -> (Outcome, u8) {
-        let mut trial = Trial { values: self.values, adjustments: *held };
+    /// How the array would end on the present state, which stays as it is.
+    pub fn outcome(&self, process: Process, array: &Array) -> Outcome {
+        self.trial_for(process).judge(array.operations())
+    }
+
+    /// Judges the array and, if every operation goes through, keeps the result. Also gives the
+    /// mask of the semaphores whose value is another now.
+    pub fn perform(&mut self, process: Process, array: &Array) -> (Outcome, u8) {
+        let mut trial = self.trial_for(process);
         let outcome = trial.judge(array.operations());
         if outcome != Outcome::Done {
             return (outcome, 0);
         }
         let changed = difference(&self.values, &trial.values);
         self.values = trial.values;
-        *held = trial.adjustments;
+        self.adjustments[process.index()] = trial.adjustments;
         for operation in array.operations() {
             self.last[usize::from(operation.number)] = process.number();
         }
         (outcome, changed)
+    }
+
+    /// Gives back what the process holds, cut to the range of a value. Gives the mask of the
+    /// semaphores whose value is another now.
+    pub fn undo(&mut self, process: Process) -> u8 {
+        let before = self.values;
+        let adjustments = &mut self.adjustments[process.index()];
+        for (value, adjustment) in self.values.iter_mut().zip(adjustments.iter_mut()) {
+            *value = (*value + *adjustment).clamp(0, VALUE_MAX);
+            *adjustment = 0;
+        }
+        difference(&before, &self.values)
     }
 }
 

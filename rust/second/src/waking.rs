@@ -3,7 +3,6 @@
 use crate::answer::Report;
 use crate::host::{Host, Rule};
 use crate::judge::Outcome;
-use crate::position::Position;
 use crate::process::Process;
 
 impl Host {
@@ -56,26 +55,15 @@ impl Host {
     /// it is taken out and listed; the mask is that of the semaphores whose value it changed.
     fn look(&mut self, process: Process, report: &mut Report) -> Option<u8> {
         report.looks += 1;
-        let (outcome, changed) = self.perform(process, self.queue.call(process).slot);
+        let sleeper = self.queue.call(process);
+        let (outcome, changed) = self.sets[sleeper.slot].perform(process, &sleeper.array);
         let (code, position) = match outcome {
             Outcome::Sleep(_) => return None,
             Outcome::Done => (0, None),
             Outcome::Refused(errno, position) => (errno.number(), Some(position)),
         };
-        self.end(process, code, position, report);
-        Some(changed)
-    }
-
-    /// Ends the call of a sleeper, and lists it.
-    pub(crate) fn end(
-        &mut self,
-        process: Process,
-        code: u8,
-        position: Option<Position>,
-        report: &mut Report,
-    ) {
         self.queue.take_out(process);
-        self.pool.release(process);
         report.wakings.push(process, code, position);
+        Some(changed)
     }
 }

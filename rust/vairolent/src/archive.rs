@@ -1,16 +1,18 @@
 //! The functions of libvairolent.a, and what they take and give, in the platform's C convention.
 //! They are the exports of `crates/vairolent/src/lib.rt`, where their promises stand.
 //!
-//! Each event has one premise: the row and the pool are those of a fresh host, or as the last event
-//! left them. Nothing checks it at run time.
+//! Each event has one premise: the row and the adjustments are those of a fresh host, or as the
+//! last event left them. Nothing checks it at run time.
 
 use std::mem::size_of;
 
-use crate::limits::{MODE_MAX, OPERATIONS, POOL, PROCESSES, SEMAPHORES, SETS, VALUE_MAX};
-use crate::pool::Pool;
+use crate::limits::{MODE_MAX, OPERATIONS, PROCESSES, SEMAPHORES, SETS, VALUE_MAX};
 
 /// All that a host holds but the adjustments.
-pub type Row = [u8; 1_925];
+pub type Row = [u8; 1_917];
+
+/// The undo adjustments, of each process for each semaphore.
+pub type Adjustments = [i16; PROCESSES * SETS * SEMAPHORES];
 
 /// The operation of an array that decided, by its position from 0; or that none did.
 #[repr(C)]
@@ -43,7 +45,7 @@ pub type List = [Woken; PROCESSES];
 #[repr(C)]
 pub struct Fresh {
     pub row: Row,
-    pub pool: Pool,
+    pub adjustments: Adjustments,
     _wakings: List,
 }
 
@@ -59,7 +61,6 @@ pub struct Told {
 
 // As they are in C, where the archive writes them.
 const _: () = assert!(size_of::<List>() == 32 && size_of::<Told>() == 32);
-const _: () = assert!(size_of::<Fresh>() == 2_088);
 
 /// What a query answers. Its looks are 0.
 #[repr(C)]
@@ -99,7 +100,7 @@ pub struct Limits {
     pub value_max: usize,
     pub mode_max: usize,
     pub row_bytes: usize,
-    pub pool: usize,
+    pub adjustments: usize,
 }
 
 /// What this package was built for.
@@ -111,7 +112,7 @@ pub const LIMITS: Limits = Limits {
     value_max: VALUE_MAX as usize,
     mode_max: MODE_MAX as usize,
     row_bytes: size_of::<Row>(),
-    pool: POOL,
+    adjustments: size_of::<Adjustments>() / size_of::<i16>(),
 };
 
 extern "C" {
@@ -121,7 +122,7 @@ extern "C" {
 
     pub fn vairolent_create_in(
         row: &mut Row,
-        pool: &mut Pool,
+        adjustments: &mut Adjustments,
         wakings: &mut List,
         process: u8,
         count: u8,
@@ -131,7 +132,7 @@ extern "C" {
     /// The operations are so many bytes, six for each. The wait is in milliseconds, if there is one.
     pub fn vairolent_operate_in(
         row: &mut Row,
-        pool: &mut Pool,
+        adjustments: &mut Adjustments,
         wakings: &mut List,
         process: u8,
         identifier: i32,
@@ -143,7 +144,7 @@ extern "C" {
 
     pub fn vairolent_set_value_in(
         row: &mut Row,
-        pool: &mut Pool,
+        adjustments: &mut Adjustments,
         wakings: &mut List,
         process: u8,
         identifier: i32,
@@ -154,7 +155,7 @@ extern "C" {
     /// The values are so many bytes, four for each, little-endian and signed.
     pub fn vairolent_set_all_in(
         row: &mut Row,
-        pool: &mut Pool,
+        adjustments: &mut Adjustments,
         wakings: &mut List,
         process: u8,
         identifier: i32,
@@ -164,7 +165,7 @@ extern "C" {
 
     pub fn vairolent_remove_in(
         row: &mut Row,
-        pool: &mut Pool,
+        adjustments: &mut Adjustments,
         wakings: &mut List,
         process: u8,
         identifier: i32,
@@ -172,28 +173,28 @@ extern "C" {
 
     pub fn vairolent_signal_in(
         row: &mut Row,
-        pool: &mut Pool,
+        adjustments: &mut Adjustments,
         wakings: &mut List,
         process: u8,
     ) -> Told;
 
     pub fn vairolent_exit_in(
         row: &mut Row,
-        pool: &mut Pool,
+        adjustments: &mut Adjustments,
         wakings: &mut List,
         process: u8,
     ) -> Told;
 
     pub fn vairolent_clock_in(
         row: &mut Row,
-        pool: &mut Pool,
+        adjustments: &mut Adjustments,
         wakings: &mut List,
         time: u64,
     ) -> Told;
 
     pub fn vairolent_act_as_in(
         row: &mut Row,
-        pool: &mut Pool,
+        adjustments: &mut Adjustments,
         wakings: &mut List,
         process: u8,
         user: u32,
@@ -202,7 +203,7 @@ extern "C" {
 
     pub fn vairolent_query_in(
         row: &Row,
-        pool: &Pool,
+        adjustments: &Adjustments,
         process: u8,
         identifier: i32,
         number: u16,
@@ -210,7 +211,7 @@ extern "C" {
 
     pub fn vairolent_query_set_in(
         row: &Row,
-        pool: &Pool,
+        adjustments: &Adjustments,
         process: u8,
         identifier: i32,
     ) -> QueriedSet;

@@ -31,8 +31,6 @@ pub const EINVAL: Code = code(22, "EINVAL", "no such set, or a bad argument");
 pub const EINVAL_TO_TELL: Code = code(22, "EINVAL", "a time is below the last, or above 2^63-1");
 pub const EFBIG: Code = code(27, "EFBIG", "a semaphore number is at or above the set's count");
 pub const ENOSPC: Code = code(28, "ENOSPC", "no slot is free");
-/// Of an undo.
-pub const ENOSPC_TO_UNDO: Code = code(28, "ENOSPC", "over 32 undo entries would be in use");
 /// Of an operation.
 pub const ERANGE: Code = code(34, "ERANGE", "a value or an adjustment would leave its range");
 /// Of a value to set.

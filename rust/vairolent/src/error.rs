@@ -54,8 +54,6 @@ coded! {
         NotOwner = EPERM,
         /// ENOSPC: no slot is free.
         NoSlot = ENOSPC,
-        /// ENOSPC: by an operate over 32 undo entries would be in use.
-        NoUndoEntry = ENOSPC_TO_UNDO,
         /// ERANGE: the value of a set value, or one of a set all, is not 0 to 32,767.
         BadValue = ERANGE_TO_SET,
         /// EINVAL: the time of a clock is below the last told, or above 2^63-1.
@@ -99,12 +97,8 @@ mod tests {
 
     #[test]
     fn one_code_twice_without_a_position() {
-        for (first, other) in
-            [(Error::Invalid, Error::BadTime), (Error::NoSlot, Error::NoUndoEntry)]
-        {
-            assert_eq!(other.code(), first.code());
-            assert_eq!(Error::check(other.code(), None), Err(first));
-        }
+        assert_eq!(Error::BadTime.code(), Error::Invalid.code());
+        assert_eq!(Error::check(22, None), Err(Error::Invalid));
     }
 
     #[test]

@@ -4,17 +4,16 @@ use std::fmt;
 use std::mem::size_of_val;
 
 use crate::answers::{Answer, Semaphore};
-use crate::archive::{self, List, Row, Told};
+use crate::archive::{self, Adjustments, List, Row, Told};
 use crate::error::Error;
 use crate::limits::{SEMAPHORES, SETS};
 use crate::operation::Operation;
-use crate::pool::{self, Pool};
 use crate::set::Set;
 use crate::wakings::Wakings;
 
 /// All that the service knows: the sets, the undo adjustments, the sleepers, the users and groups of
-/// the processes, and the time last told. It is some two thousand bytes in itself, with nothing
-/// outside of it.
+/// the processes, and the time last told. It is some two and a half thousand bytes in itself, with
+/// nothing outside of it.
 ///
 /// Only the events change a host, so it is always fresh or as the last event left it. That is the
 /// one premise of what is proved about them, and it holds of a clone too.
@@ -48,16 +47,6 @@ use crate::wakings::Wakings;
 /// Permission is judged by the process's present numbers when a call begins, and not again at its
 /// waking.
 ///
-/// # Undo entries
-///
-/// An undo entry is in use for a process and a semaphore while the process's adjustment there is not
-/// 0, and while the process sleeps on operations that name the semaphore with [`Operation::UNDO`] and
-/// an amount other than 0. At most 32 are in use in a host ([`POOL`](crate::POOL)). An operate that
-/// would make more is refused. Its own such operations count, whether or not they would go through,
-/// and those at one semaphore once. So where all are in use, an operate that would give one back and
-/// take another is refused, and one without such operations never. What falls out of use can be used
-/// again at once.
-///
 /// # Equality
 ///
 /// Two hosts are equal exactly when they hold the same state. A host is nothing but how it holds
@@ -79,19 +68,19 @@ use crate::wakings::Wakings;
 #[derive(Clone, PartialEq, Eq)]
 pub struct Host {
     row: Row,
-    pool: Pool,
+    adjustments: Adjustments,
 }
 
 /// Lends the parts of a host to an event of the archive, with a list for its wakings.
 macro_rules! lend {
     ($host:ident to $event:ident($($argument:ident),*)) => {{
-        let Host { row, pool } = $host;
+        let Host { row, adjustments } = $host;
         let mut list = List::default();
         // SAFETY: The host is fresh or as the last event left it, since its parts are private and
         // written here alone. They and the list lie apart, as each is borrowed by itself. A pointer
         // and bytes, of operations or values, are those of a slice that the event's caller lends.
         // The archive writes numbers, for which any bytes will do.
-        let told = unsafe { archive::$event(row, pool, &mut list, $($argument),*) };
+        let told = unsafe { archive::$event(row, adjustments, &mut list, $($argument),*) };
         settled(told, list)
     }};
 }
@@ -104,8 +93,8 @@ fn settled(told: Told, list: List) -> Result<(Told, Wakings), Error> {
 }
 
 impl Host {
-    /// A fresh host: four free slots, every undo entry free, every process of user 0 and group 0, no
-    /// sleepers, and time 0.
+    /// A fresh host: four free slots, every adjustment at zero, every process of user 0 and group 0,
+    /// no sleepers, and time 0.
     ///
     /// # Panics
     ///
@@ -123,7 +112,7 @@ impl Host {
         assert_eq!(limits, archive::LIMITS, "libvairolent.a is of another build than this package");
         // SAFETY: As above, and the sizes of what it gives are the archive's.
         let fresh = unsafe { archive::vairolent_fresh() };
-        Host { row: fresh.row, pool: fresh.pool }
+        Host { row: fresh.row, adjustments: fresh.adjustments }
     }
 
     /// Makes a set of `count` semaphores at 0 in the lowest free slot, and gives its identifier.
@@ -177,7 +166,6 @@ impl Host {
     /// - [`Error::NoSemaphore`]: a semaphore number is at or above the set's count.
     /// - [`Error::NotPermitted`]: an amount is not zero and altering is [not
     ///   permitted](Host#what-a-process-may-do), or one is zero and reading is not.
-    /// - [`Error::NoUndoEntry`]: over 32 [undo entries](Host#undo-entries) would be in use.
     ///
     /// Then by the judging, from the operation that decides, and with its position:
     ///
@@ -255,12 +243,9 @@ impl Host {
         let bytes = size_of_val(operations);
         let operations = operations.as_ptr().cast();
         let (waits, wait) = (wait.is_some(), wait.unwrap_or(0));
-        let told = lend!(
+        let (told, wakings) = lend!(
             self to vairolent_operate_in(process, identifier, waits, wait, operations, bytes)
-        );
-        // It makes no set.
-        let no_slot = |error| if error == Error::NoSlot { Error::NoUndoEntry } else { error };
-        let (told, wakings) = told.map_err(no_slot)?;
+        )?;
         Ok(match told.position.get() {
             Some(position) => Answer::Asleep { position },
             None => Answer::Done(wakings),
@@ -514,9 +499,10 @@ impl Host {
     /// # Ok::<(), vairolent::Error>(())
     /// ```
     pub fn query(&self, process: u8, identifier: i32, number: u16) -> Result<Semaphore, Error> {
-        let Host { row, pool } = self;
+        let Host { row, adjustments } = self;
         // SAFETY: The host is fresh or as the last event left it, since its parts are private.
-        let seen = unsafe { archive::vairolent_query_in(row, pool, process, identifier, number) };
+        let seen =
+            unsafe { archive::vairolent_query_in(row, adjustments, process, identifier, number) };
         Error::check(seen.code, None)?;
         Ok(Semaphore {
             value: seen.value,
@@ -561,9 +547,10 @@ impl Host {
     /// # Ok::<(), vairolent::Error>(())
     /// ```
     pub fn query_set(&self, process: u8, identifier: i32) -> Result<Set, Error> {
-        let Host { row, pool } = self;
+        let Host { row, adjustments } = self;
         // SAFETY: The host is fresh or as the last event left it, since its parts are private.
-        let seen = unsafe { archive::vairolent_query_set_in(row, pool, process, identifier) };
+        let seen =
+            unsafe { archive::vairolent_query_set_in(row, adjustments, process, identifier) };
         Error::check(seen.code, None)?;
         Ok(Set::new(&seen))
     }
@@ -584,7 +571,12 @@ impl Host {
     /// # Ok::<(), vairolent::Error>(())
     /// ```
     pub fn adjustments(&self, process: u8) -> [[i16; SEMAPHORES]; SETS] {
-        pool::adjustments(&self.pool, process)
+        let mut rows = [[0; SEMAPHORES]; SETS];
+        let all = self.adjustments.chunks_exact(SETS * SEMAPHORES);
+        let own = all.zip(1..).find(|&(_, each)| each == process);
+        let own = own.into_iter().flat_map(|(own, _)| own.chunks_exact(SEMAPHORES));
+        own.zip(&mut rows).for_each(|(from, to)| to.copy_from_slice(from));
+        rows
     }
 }
 

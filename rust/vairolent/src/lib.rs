@@ -109,31 +109,6 @@
 //! # Ok::<(), vairolent::Error>(())
 //! ```
 //!
-//! # Undo entries
-//!
-//! What operations with [`Operation::UNDO`] are to give back stands in a pool of 32 entries, one for
-//! each process and semaphore; a sleeper has an entry in use for each that its operations may need.
-//! An operate that finds too few is refused before it is judged, and what a process gives back is
-//! free for the next ([the whole rule](Host#undo-entries)).
-//!
-//! ```
-//! use vairolent::{Answer, Error, Host, Operation};
-//!
-//! let mut host = Host::new();
-//! let sets = [(); 4].map(|()| host.create(1, 8, 0o666).expect("a slot is free"));
-//! let all: Vec<Operation> = (0..8).map(|number| Operation::new(number, 1).undo()).collect();
-//! // Process 1 uses all 32, and process 2 finds none.
-//! for set in sets {
-//!     assert!(matches!(host.operate(1, set, &all)?, Answer::Done(_)));
-//! }
-//! assert_eq!(host.operate(2, sets[0], &all[..1]), Err(Error::NoUndoEntry));
-//! // Without undo it needs none.
-//! assert!(matches!(host.operate(2, sets[0], &[Operation::new(0, 1)])?, Answer::Done(_)));
-//! let _ = host.exit(1)?;
-//! assert!(matches!(host.operate(2, sets[0], &all)?, Answer::Done(_)));
-//! # Ok::<(), vairolent::Error>(())
-//! ```
-//!
 //! # What is proved
 //!
 //! The events are functions of libvairolent.a, which tools/build-library makes from
@@ -160,7 +135,6 @@ mod event;
 mod host;
 mod limits;
 mod operation;
-mod pool;
 mod set;
 mod wakings;
 
@@ -168,7 +142,7 @@ pub use answers::{Answer, Semaphore};
 pub use error::Error;
 pub use event::{Event, Told};
 pub use host::Host;
-pub use limits::{MODE_MAX, OPERATIONS, POOL, PROCESSES, SEMAPHORES, SETS, TIME_MAX, VALUE_MAX};
+pub use limits::{MODE_MAX, OPERATIONS, PROCESSES, SEMAPHORES, SETS, TIME_MAX, VALUE_MAX};
 pub use operation::Operation;
 pub use set::Set;
 pub use wakings::{Ending, Waking, Wakings};

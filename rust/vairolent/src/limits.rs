@@ -12,9 +12,6 @@ pub const PROCESSES: usize = 8;
 /// The most operations of one call.
 pub const OPERATIONS: usize = 32;
 
-/// The undo entries of a host, and so the most that are in use at once.
-pub const POOL: usize = 32;
-
 /// The largest value of a semaphore; the smallest is 0.
 pub const VALUE_MAX: u16 = 32_767;
 

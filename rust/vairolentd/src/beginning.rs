@@ -4,8 +4,7 @@
 //! While it is built every number is user 0, as in a fresh host, and so nothing is refused; only the
 //! spare one makes each set as the set's owner. Then each number is told as whom it acts, and those who
 //! sleep go to sleep. They are permitted to, as they were before: neither a sleeper's user and group nor
-//! a set's owner and mode can have changed since. And at no moment is an undo entry in use, or asked
-//! for, that is not in use in the host that is made: so none is missing on the way.
+//! a set's owner and mode can have changed since.
 
 use vairolent::{Event, Host, Operation, Semaphore, PROCESSES, SETS};
 
@@ -164,7 +163,6 @@ fn semaphores(host: &Host, identifier: i32) -> impl Iterator<Item = (u16, Semaph
 #[cfg(test)]
 mod tests {
     use super::*;
-    use vairolent::{Error, Told};
 
     struct Random(u64);
 
@@ -182,12 +180,6 @@ mod tests {
             } else {
                 operation
             }
-        }
-
-        /// One that adds or takes 1, at any of eight semaphores.
-        fn undo(&mut self) -> Operation {
-            let amount = [1, 1, 1, -1][self.below(4) as usize];
-            Operation::new(self.below(8) as u16, amount).undo()
         }
     }
 
@@ -236,36 +228,6 @@ mod tests {
         }
         assert!(asleep > 1_000 && others > 500, "{asleep} asleep, {others} of them not as user 0");
         assert!(owned > 1_000 && adjusted > 500, "{owned} sets of others, {adjusted} adjusted");
-    }
-
-    /// All undo entries are in use, of adjustments and of sleepers.
-    #[test]
-    fn a_host_without_a_free_entry_has_a_beginning() {
-        let (mut random, mut refused, mut asleep) = (Random(11), 0, 0);
-        for _ in 0..40 {
-            let (mut host, mut known) = (Host::new(), Known::default());
-            let mut hand_in = |event: Event| {
-                let told = host.run(&event);
-                known.note(&event, &told);
-                let beginning = Beginning::of(&host, &known, 32_768);
-                assert!(beginning.is_some(), "{event:?}: {told:?}");
-                told
-            };
-            for _ in 0..SETS {
-                let _ = hand_in(Event::Create { process: SPARE, count: 8, mode: 0o600 });
-            }
-            for _ in 0..60 {
-                let (process, identifier) = (1 + random.below(8) as u8, random.below(4) as i32);
-                let operations = &[random.undo(), random.undo(), random.undo()];
-                let wait = (process == SPARE).then_some(0);
-                match hand_in(Event::Operate { process, identifier, wait, operations }) {
-                    Told::Refused(Error::NoUndoEntry) => refused += 1,
-                    Told::Asleep { .. } => asleep += 1,
-                    _ => {}
-                }
-            }
-        }
-        assert!(refused > 500 && asleep > 100, "{refused} refused, {asleep} asleep");
     }
 
     #[test]

@@ -1,6 +1,6 @@
 //! semctl.
 
-use vairolent::{Event, Told, OPERATIONS, POOL, PROCESSES, SEMAPHORES, SETS, VALUE_MAX};
+use vairolent::{Event, Told, OPERATIONS, PROCESSES, SEMAPHORES, SETS, VALUE_MAX};
 
 use crate::caller::{Caller, Role};
 use crate::clock;
@@ -141,7 +141,7 @@ impl Daemon {
             PROCESSES as i32 - 1,
             SEMAPHORES as i32,
             OPERATIONS as i32,
-            POOL as i32,
+            all,
             sets_used,
             VALUE_MAX.into(),
             semaphores_used,

@@ -1,8 +1,7 @@
 //! semop and semtimedop.
 
-use vairolent::{Event, Host, Operation, Told, SEMAPHORES, SETS};
+use vairolent::{Event, Host, Operation, Told, SEMAPHORES, SETS, VALUE_MAX};
 
-use crate::accounts::leave_range;
 use crate::caller::Caller;
 use crate::clock;
 use crate::daemon::{ConnectionId, Daemon, Sleeper};
@@ -84,9 +83,14 @@ impl Daemon {
 
     /// Would the parts of the caller's account together leave the range that one has?
     fn leaves_range(&self, call: &Call, process: u8, after: &Host) -> bool {
-        let numbers = self.other_parts(call, process).chain([process]);
-        let parts: Vec<_> = numbers.map(|number| after.adjustments(number)).collect();
-        (0..SETS).any(|slot| leave_range(parts.iter().map(|part| part[slot])))
+        let mut sums = [0; SETS * SEMAPHORES];
+        for number in self.other_parts(call, process).chain([process]) {
+            let part = after.adjustments(number);
+            sums.iter_mut()
+                .zip(part.iter().flatten())
+                .for_each(|(sum, each)| *sum += i32::from(*each));
+        }
+        sums.iter().any(|sum| sum.abs() > i32::from(VALUE_MAX))
     }
 }
 

@@ -38,12 +38,7 @@ impl Trial {
 
     /// Makes a set of two semaphores at 0.
     pub fn make(&mut self, caller: &Caller, mode: i32) -> i32 {
-        self.make_of(2, caller, mode)
-    }
-
-    /// .. or of so many.
-    pub fn make_of(&mut self, count: i32, caller: &Caller, mode: i32) -> i32 {
-        self.daemon.get(caller, 0, count, mode).expect("made")
+        self.daemon.get(caller, 0, 2, mode).expect("made")
     }
 
     /// The code of a semctl on semaphore 0, whose values are 0, and its value.

@@ -6,21 +6,21 @@ ghost use Rattle.service.specs.After.{after_in, after_of};
 
 use crate::events::quiet;
 use host::{HOST_BYTES, put_caller};
-use model::{Caller, POOL, Told, WAKING_BYTES};
+use model::{ALL_ADJUSTMENTS, Caller, Told, WAKING_BYTES};
 use service_checks::check_caller;
 use wakings::clear;
 
 // It asks no permission. Sets keep the owner that they have.
 pub fn act_as(
     host: &mut [u8; HOST_BYTES],
-    pool: &mut [u32; POOL],
+    adjustments: &mut [i16; ALL_ADJUSTMENTS],
     wakings: &mut [u8; WAKING_BYTES],
     process: u8,
     user: u32,
     group: u32,
 ) -> Told
-    requires { Held (host_in host.old pool.old) }
-    ensures { after_in host.new pool.new wakings.new result ≡ after_of (do_act_as (state_in (host_in host.old pool.old)) process user group) }
+    requires { Held (host_in host.old adjustments.old) }
+    ensures { after_in host.new adjustments.new wakings.new result ≡ after_of (do_act_as (state_in (host_in host.old adjustments.old)) process user group) }
 {
     clear(wakings);
     let code = check_caller(&*host, process);

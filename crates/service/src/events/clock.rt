@@ -6,7 +6,7 @@ ghost use Rattle.service.specs.After.{after_in, after_of};
 
 use crate::events::{quiet, told};
 use host::{HOST_BYTES, put_time};
-use model::{POOL, Told, WAKING_BYTES};
+use model::{ALL_ADJUSTMENTS, Told, WAKING_BYTES};
 use service_checks::check_clock;
 use service_queue::{Ending, end_all};
 use service_waking::Tally;
@@ -15,12 +15,12 @@ use wakings::clear;
 // No value changes, so nobody is looked at.
 pub fn clock(
     host: &mut [u8; HOST_BYTES],
-    pool: &mut [u32; POOL],
+    adjustments: &mut [i16; ALL_ADJUSTMENTS],
     wakings: &mut [u8; WAKING_BYTES],
     time: u64,
 ) -> Told
-    requires { Held (host_in host.old pool.old) }
-    ensures { after_in host.new pool.new wakings.new result ≡ after_of (do_clock (state_in (host_in host.old pool.old)) time) }
+    requires { Held (host_in host.old adjustments.old) }
+    ensures { after_in host.new adjustments.new wakings.new result ≡ after_of (do_clock (state_in (host_in host.old adjustments.old)) time) }
 {
     clear(&mut *wakings);
     let code = check_clock(&*host, time);

@@ -6,21 +6,21 @@ ghost use Rattle.service.specs.After.{after_in, after_of};
 
 use crate::events::quiet;
 use host::{HOST_BYTES, caller_of, put_set, set_at};
-use model::{POOL, SETS, Set, Told, WAKING_BYTES};
+use model::{ALL_ADJUSTMENTS, SETS, Set, Told, WAKING_BYTES};
 use service_checks::{check_create, free_slot};
 use service_table::clear_slot;
 use wakings::clear;
 
 pub fn create(
     host: &mut [u8; HOST_BYTES],
-    pool: &mut [u32; POOL],
+    adjustments: &mut [i16; ALL_ADJUSTMENTS],
     wakings: &mut [u8; WAKING_BYTES],
     process: u8,
     count: u8,
     mode: u16,
 ) -> Told
-    requires { Held (host_in host.old pool.old) }
-    ensures { after_in host.new pool.new wakings.new result ≡ after_of (do_create (state_in (host_in host.old pool.old)) process count mode) }
+    requires { Held (host_in host.old adjustments.old) }
+    ensures { after_in host.new adjustments.new wakings.new result ≡ after_of (do_create (state_in (host_in host.old adjustments.old)) process count mode) }
 {
     clear(wakings);
     let code = check_create(&*host, process, count, mode);
@@ -39,6 +39,6 @@ pub fn create(
         mode: mode,
     };
     put_set(&mut *host, slot, set);
-    clear_slot(host, pool, slot);
+    clear_slot(host, adjustments, slot);
     quiet(0, (slot as u32) + (SETS as u32) * (generation as u32))
 }

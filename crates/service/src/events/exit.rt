@@ -11,7 +11,7 @@ ghost use Rattle.service.specs.After.{after_in, after_of};
 
 use crate::events::{quiet, told};
 use host::HOST_BYTES;
-use model::{Engine, POOL, SETS, Told, WAKING_BYTES};
+use model::{ALL_ADJUSTMENTS, Engine, SETS, Told, WAKING_BYTES};
 use service_checks::check_process;
 use service_queue::leave;
 use service_table::undo_slot;
@@ -19,15 +19,19 @@ use service_waking::wake_all;
 use wakings::clear;
 
 // All sets are adjusted: the answer has for each the mask of its values that now differ.
-fn undo_all(host: &mut [u8; HOST_BYTES], pool: &mut [u32; POOL], process: u8) -> [u8; SETS]
+fn undo_all(
+    host: &mut [u8; HOST_BYTES],
+    adjustments: &mut [i16; ALL_ADJUSTMENTS],
+    process: u8,
+) -> [u8; SETS]
     requires process { IsProcess process }
-    requires good { Good (table_in (host_in host.old pool.old)) }
-    ensures pool_after { host_in host.new pool.new ≡ tabled (host_in host.old pool.old) (exited (table_in (host_in host.old pool.old)) process) }
-    ensures value { result ≡ touched_from slots 0 (table_in (host_in host.old pool.old)) (exited (table_in (host_in host.old pool.old)) process) }
+    requires good { Good (table_in (host_in host.old adjustments.old)) }
+    ensures adjustments_after { host_in host.new adjustments.new ≡ tabled (host_in host.old adjustments.old) (exited (table_in (host_in host.old adjustments.old)) process) }
+    ensures value { result ≡ touched_from slots 0 (table_in (host_in host.old adjustments.old)) (exited (table_in (host_in host.old adjustments.old)) process) }
 {
     let mut touched = [0u8; SETS];
     for slot in 0..SETS {
-        let mask = undo_slot(&mut *host, &mut *pool, process, slot);
+        let mask = undo_slot(&mut *host, &mut *adjustments, process, slot);
         touched[slot] = mask;
     }
     touched
@@ -36,13 +40,13 @@ fn undo_all(host: &mut [u8; HOST_BYTES], pool: &mut [u32; POOL], process: u8) ->
 // A sleeper of the process goes without a waking; all sets are adjusted first, then treated.
 pub fn exit(
     host: &mut [u8; HOST_BYTES],
-    pool: &mut [u32; POOL],
+    adjustments: &mut [i16; ALL_ADJUSTMENTS],
     wakings: &mut [u8; WAKING_BYTES],
     engine: Engine,
     process: u8,
 ) -> Told
-    requires { Held (host_in host.old pool.old) }
-    ensures { after_in host.new pool.new wakings.new result ≡ after_of (do_exit (waker engine) (state_in (host_in host.old pool.old)) process) }
+    requires { Held (host_in host.old adjustments.old) }
+    ensures { after_in host.new adjustments.new wakings.new result ≡ after_of (do_exit (waker engine) (state_in (host_in host.old adjustments.old)) process) }
 {
     clear(&mut *wakings);
     let code = check_process(process);
@@ -50,6 +54,6 @@ pub fn exit(
         return quiet(code, 0);
     }
     leave(&mut *host, process);
-    let touched = undo_all(&mut *host, &mut *pool, process);
-    told(wake_all(host, pool, wakings, engine, touched))
+    let touched = undo_all(&mut *host, &mut *adjustments, process);
+    told(wake_all(host, adjustments, wakings, engine, touched))
 }

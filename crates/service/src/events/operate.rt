@@ -18,8 +18,8 @@ ghost use Rattle.service.specs.After.{after_in, after_of};
 use crate::events::{nobody, not_done, quiet, told};
 use host::{HOST_BYTES, adjustments_of, values_of};
 use judging::{judge, slot_of};
-use model::{Engine, Outcome, POOL, Told, WAKING_BYTES, Wait};
-use service_checks::{check_call, has_room};
+use model::{ALL_ADJUSTMENTS, Engine, Outcome, Told, WAKING_BYTES, Wait};
+use service_checks::check_operate;
 use service_queue::fall_asleep;
 use service_table::{apply, differing_mask};
 use service_waking::wake;
@@ -42,7 +42,6 @@ fn would_sleep(
     slot: usize,
     bytes: &[u8],
     names: u8,
-    undos: u8,
     wait: Wait,
 ) -> i32
     requires queue_held { QueueHeld (row_in host.old) }
@@ -51,14 +50,13 @@ fn would_sleep(
     requires host_len_bound { length (queue_in (row_in host.old)) < processes }
     requires slot_bound { slot < 256 }
     requires names_value { names ≡ named_by 0 (operations_of bytes.now) }
-    requires undos_value { undos ≡ named_by 0 (undoing (operations_of bytes.now)) }
     ensures host_after { row_in host.new ≡ (if at_once wait then row_in host.old else with_queue (row_in host.old) (queue_in (row_in host.old) ++ record { process = process; slot = slot; array = bytes.now; start = time_in (row_in host.old); wait = wait } ∷ [])) }
     ensures value { result ≡ (if at_once wait then pos 11 else code_of Sleep) }
 {
     if at_once(wait) {
         return 11;
     }
-    fall_asleep(host, process, slot, bytes, names, undos, wait);
+    fall_asleep(host, process, slot, bytes, names, wait);
     -1
 }
 
@@ -66,7 +64,7 @@ fn would_sleep(
 // refused, and the operation that decided is told.
 pub fn operate(
     host: &mut [u8; HOST_BYTES],
-    pool: &mut [u32; POOL],
+    adjustments: &mut [i16; ALL_ADJUSTMENTS],
     wakings: &mut [u8; WAKING_BYTES],
     engine: Engine,
     process: u8,
@@ -74,48 +72,36 @@ pub fn operate(
     wait: Wait,
     bytes: &[u8],
 ) -> Told
-    requires { Held (host_in host.old pool.old) }
-    ensures { after_in host.new pool.new wakings.new result ≡ after_of (do_operate (waker engine) (state_in (host_in host.old pool.old)) process identifier wait bytes.now) }
+    requires { Held (host_in host.old adjustments.old) }
+    ensures { after_in host.new adjustments.new wakings.new result ≡ after_of (do_operate (waker engine) (state_in (host_in host.old adjustments.old)) process identifier wait bytes.now) }
 {
     clear(&mut *wakings);
-    let checked = check_call(&*host, process, identifier, bytes);
+    let checked = check_operate(&*host, process, identifier, bytes);
     if checked.code != 0 {
         return quiet(checked.code, 0);
     }
     let slot = slot_of(identifier);
-    if !has_room(&*host, &*pool, process, slot, checked.undos) {
-        return quiet(28, 0);
-    }
     let before = values_of(&*host, slot);
     let mut values = before;
-    let mut undo = adjustments_of(&*pool, process, slot);
+    let mut undo = adjustments_of(&*adjustments, process, slot);
     let verdict = judge(&mut values, &mut undo, bytes);
     let outcome = verdict.outcome;
     match outcome {
         Outcome::Done => {
             apply(
                 &mut *host,
-                &mut *pool,
+                &mut *adjustments,
                 process,
                 slot,
                 checked.names,
-                checked.undos,
                 values,
                 undo,
             );
             let touched = differing_mask(before, values);
-            told(wake(host, pool, wakings, engine, slot, touched, nobody()))
+            told(wake(host, adjustments, wakings, engine, slot, touched, nobody()))
         }
         Outcome::Sleep => {
-            let code = would_sleep(
-                host,
-                process,
-                slot,
-                bytes,
-                checked.names,
-                checked.undos,
-                wait,
-            );
+            let code = would_sleep(host, process, slot, bytes, checked.names, wait);
             not_done(code, outcome, verdict.position)
         }
         Outcome::Again => not_done(11, outcome, verdict.position),

@@ -7,7 +7,7 @@ ghost use Rattle.service.specs.After.{queried_of, showing};
 use crate::waiting::waiting;
 use host::{HOST_BYTES, last_at, value_at};
 use judging::{answer, slot_of};
-use model::{POOL, Queried, SEMAPHORES};
+use model::{ALL_ADJUSTMENTS, Queried, SEMAPHORES};
 use service_checks::check_query;
 
 // A refused query: zeros after the code.
@@ -29,13 +29,13 @@ fn refused(code: u8) -> Queried
 // A wait count is the number of ones in its mask.
 pub fn query(
     host: &[u8; HOST_BYTES],
-    pool: &[u32; POOL],
+    adjustments: &[i16; ALL_ADJUSTMENTS],
     process: u8,
     identifier: i32,
     number: u16,
 ) -> Queried
-    requires { Held (host_in host.now pool.now) }
-    ensures { result ≡ queried_of (do_query (state_in (host_in host.now pool.now)) process identifier number) }
+    requires { Held (host_in host.now adjustments.now) }
+    ensures { result ≡ queried_of (do_query (state_in (host_in host.now adjustments.now)) process identifier number) }
 {
     let code = check_query(host, process, identifier, number);
     if code != 0 {
@@ -44,7 +44,7 @@ pub fn query(
     let slot = slot_of(identifier);
     let n = number as usize;
     let at = slot * SEMAPHORES + n;
-    let waiters = waiting(host, pool, slot);
+    let waiters = waiting(host, adjustments, slot);
     let increase = waiters.increase[n];
     let zero = waiters.zero[n];
     Queried {

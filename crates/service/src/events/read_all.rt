@@ -9,7 +9,7 @@ ghost use Rattle.service.specs.After.{read_out};
 
 use crate::whole_set::query_set;
 use host::HOST_BYTES;
-use model::{ALL_READ, ONE_READ, POOL, Reading, SEMAPHORES};
+use model::{ALL_ADJUSTMENTS, ALL_READ, ONE_READ, Reading, SEMAPHORES};
 
 // Writes of so many semaphores, one behind the other, the value, and how many wait for an increase and for zero.
 fn put_numbers(
@@ -37,15 +37,15 @@ fn put_numbers(
 // One walk over the sleepers tells all of it. It changes nothing of the host.
 pub fn read_all(
     host: &[u8; HOST_BYTES],
-    pool: &[u32; POOL],
+    adjustments: &[i16; ALL_ADJUSTMENTS],
     numbers: &mut [u32; ALL_READ],
     process: u8,
     identifier: i32,
 ) -> Reading
-    requires { Held (host_in host.now pool.now) }
-    ensures { (result, numbers.new) ≡ read_out numbers.old (do_read_all (state_in (host_in host.now pool.now)) process identifier) }
+    requires { Held (host_in host.now adjustments.now) }
+    ensures { (result, numbers.new) ≡ read_out numbers.old (do_read_all (state_in (host_in host.now adjustments.now)) process identifier) }
 {
-    let set = query_set(host, pool, process, identifier);
+    let set = query_set(host, adjustments, process, identifier);
     let values = set.values;
     let increase = set.increase;
     let zero = set.zero;

@@ -7,7 +7,7 @@ ghost use Rattle.service.specs.After.{after_in, after_of};
 use crate::events::{quiet, told};
 use host::{HOST_BYTES, put_set, set_at};
 use judging::slot_of;
-use model::{POOL, Set, Told, WAKING_BYTES};
+use model::{ALL_ADJUSTMENTS, Set, Told, WAKING_BYTES};
 use service_checks::check_remove;
 use service_queue::{Ending, end_all};
 use service_table::clear_slot;
@@ -17,13 +17,13 @@ use wakings::clear;
 
 pub fn remove(
     host: &mut [u8; HOST_BYTES],
-    pool: &mut [u32; POOL],
+    adjustments: &mut [i16; ALL_ADJUSTMENTS],
     wakings: &mut [u8; WAKING_BYTES],
     process: u8,
     identifier: i32,
 ) -> Told
-    requires { Held (host_in host.old pool.old) }
-    ensures { after_in host.new pool.new wakings.new result ≡ after_of (do_remove (state_in (host_in host.old pool.old)) process identifier) }
+    requires { Held (host_in host.old adjustments.old) }
+    ensures { after_in host.new adjustments.new wakings.new result ≡ after_of (do_remove (state_in (host_in host.old adjustments.old)) process identifier) }
 {
     clear(&mut *wakings);
     let code = check_remove(&*host, process, identifier);
@@ -40,7 +40,7 @@ pub fn remove(
         mode: 0,
     };
     put_set(&mut *host, slot, set);
-    clear_slot(&mut *host, pool, slot);
+    clear_slot(&mut *host, adjustments, slot);
     let woken = end_all(host, wakings, Ending::Removal(slot));
     told(Tally {
         looks: 0,

@@ -10,7 +10,7 @@ ghost use Rattle.service.specs.After.{after_in, after_of};
 use crate::events::{nobody, quiet, told};
 use host::{HOST_BYTES, set_at};
 use judging::slot_of;
-use model::{Engine, POOL, Told, WAKING_BYTES};
+use model::{ALL_ADJUSTMENTS, Engine, Told, WAKING_BYTES};
 use service_checks::check_set_all;
 use service_table::assign_all;
 use service_waking::wake;
@@ -28,15 +28,15 @@ fn every_number(count: u8) -> u8
 // adjustments can change an outcome.
 pub fn set_all(
     host: &mut [u8; HOST_BYTES],
-    pool: &mut [u32; POOL],
+    adjustments: &mut [i16; ALL_ADJUSTMENTS],
     wakings: &mut [u8; WAKING_BYTES],
     engine: Engine,
     process: u8,
     identifier: i32,
     values: &[u8],
 ) -> Told
-    requires { Held (host_in host.old pool.old) }
-    ensures { after_in host.new pool.new wakings.new result ≡ after_of (do_set_all (waker engine) (state_in (host_in host.old pool.old)) process identifier values.now) }
+    requires { Held (host_in host.old adjustments.old) }
+    ensures { after_in host.new adjustments.new wakings.new result ≡ after_of (do_set_all (waker engine) (state_in (host_in host.old adjustments.old)) process identifier values.now) }
 {
     clear(&mut *wakings);
     let code = check_set_all(&*host, process, identifier, values);
@@ -45,7 +45,7 @@ pub fn set_all(
     }
     let slot = slot_of(identifier);
     let set = set_at(&*host, slot);
-    assign_all(&mut *host, &mut *pool, slot, values);
+    assign_all(&mut *host, &mut *adjustments, slot, values);
     let touched = every_number(set.count);
-    told(wake(host, pool, wakings, engine, slot, touched, nobody()))
+    told(wake(host, adjustments, wakings, engine, slot, touched, nobody()))
 }

@@ -8,7 +8,7 @@ ghost use Rattle.service.specs.After.{after_in, after_of};
 use crate::events::{nobody, quiet, told};
 use host::HOST_BYTES;
 use judging::{slot_of, value_of};
-use model::{Engine, POOL, Told, WAKING_BYTES};
+use model::{ALL_ADJUSTMENTS, Engine, Told, WAKING_BYTES};
 use service_checks::check_set_value;
 use service_table::assign;
 use service_waking::wake;
@@ -17,7 +17,7 @@ use wakings::clear;
 // The named semaphore is always touched, whatever its value was: cleared adjustments can change an outcome.
 pub fn set_value(
     host: &mut [u8; HOST_BYTES],
-    pool: &mut [u32; POOL],
+    adjustments: &mut [i16; ALL_ADJUSTMENTS],
     wakings: &mut [u8; WAKING_BYTES],
     engine: Engine,
     process: u8,
@@ -25,8 +25,8 @@ pub fn set_value(
     number: u16,
     value: i32,
 ) -> Told
-    requires { Held (host_in host.old pool.old) }
-    ensures { after_in host.new pool.new wakings.new result ≡ after_of (do_set_value (waker engine) (state_in (host_in host.old pool.old)) process identifier number value) }
+    requires { Held (host_in host.old adjustments.old) }
+    ensures { after_in host.new adjustments.new wakings.new result ≡ after_of (do_set_value (waker engine) (state_in (host_in host.old adjustments.old)) process identifier number value) }
 {
     clear(&mut *wakings);
     let code = check_set_value(&*host, process, identifier, number, value);
@@ -35,7 +35,7 @@ pub fn set_value(
     }
     let slot = slot_of(identifier);
     let at = number as usize;
-    assign(&mut *host, &mut *pool, slot, at, value_of(value));
+    assign(&mut *host, &mut *adjustments, slot, at, value_of(value));
     let touched = 1u8 << at;
-    told(wake(host, pool, wakings, engine, slot, touched, nobody()))
+    told(wake(host, adjustments, wakings, engine, slot, touched, nobody()))
 }

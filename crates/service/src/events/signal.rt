@@ -6,7 +6,7 @@ ghost use Rattle.service.specs.After.{after_in, after_of};
 
 use crate::events::{quiet, told};
 use host::HOST_BYTES;
-use model::{POOL, Position, Told, WAKING_BYTES};
+use model::{ALL_ADJUSTMENTS, Position, Told, WAKING_BYTES};
 use service_checks::check_process;
 use service_queue::leave;
 use service_waking::Tally;
@@ -14,12 +14,12 @@ use wakings::{clear, note};
 
 pub fn signal(
     host: &mut [u8; HOST_BYTES],
-    pool: &mut [u32; POOL],
+    adjustments: &mut [i16; ALL_ADJUSTMENTS],
     wakings: &mut [u8; WAKING_BYTES],
     process: u8,
 ) -> Told
-    requires { Held (host_in host.old pool.old) }
-    ensures { after_in host.new pool.new wakings.new result ≡ after_of (do_signal (state_in (host_in host.old pool.old)) process) }
+    requires { Held (host_in host.old adjustments.old) }
+    ensures { after_in host.new adjustments.new wakings.new result ≡ after_of (do_signal (state_in (host_in host.old adjustments.old)) process) }
 {
     clear(wakings);
     let code = check_process(process);

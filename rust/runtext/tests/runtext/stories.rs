@@ -116,26 +116,6 @@ event 12: process 2 (user 8, group 9) removes set 0
     assert!(story.ends_with(wanted), "{story}");
 }
 
-/// A create and an operate are refused with one code, each for a reason of its own.
-#[test]
-fn no_slot_and_no_undo_entry() {
-    let undo: String = (0..8).map(|number| format!(" {number}:+1/undo")).collect();
-    let use_all = |set| format!("operate 1 set={set}{undo}\n");
-    let text = "create 8 by=1\n".repeat(5)
-        + &(0..4).map(use_all).collect::<String>()
-        + "operate 2 set=0 0:-1/undo,nowait\noperate 2 set=0 0:-1\n";
-    let story = story(&[], text.as_bytes());
-    for wanted in [
-        "  line    4 28 0 0\n  answer  refused: ENOSPC (28), no slot is free\n",
-        "  line    8 0 0 0\n  answer  done (0), 0 looks\n",
-        "  line    9 28 0 0\n  answer  refused: ENOSPC (28), over 32 undo entries would be in use\n  \
-        values  set 0: 1 1 1 1 1 1 1 1\n",
-        "  line    10 0 0 0\n  answer  done (0), 0 looks\n  values  set 0: 0 1 1 1 1 1 1 1\n",
-    ] {
-        assert!(story.contains(wanted), "{wanted} is not in\n{story}");
-    }
-}
-
 /// Where all sleep nobody can read; why the last one sleeps is known from before.
 #[test]
 fn all_processes_asleep() {

@@ -4,7 +4,6 @@ mod callers;
 mod clock;
 mod files;
 mod permission;
-mod pool;
 mod positions;
 mod program;
 mod rules;

@@ -84,8 +84,7 @@ fn an_array_that_no_body_holds_has_none() {
     assert!(operations.len() > OPERATIONS);
 }
 
-/// Each process has its own adjustment for each semaphore; its exit adds them, and they are 0 then. In
-/// eight rounds each of the 256 comes once, and all processes together use the whole pool.
+/// Each process has its own adjustment for each semaphore; its exit adds them, and they are 0 then.
 #[test]
 fn adjustments_are_what_exits_add() {
     let mut host = Host::new();
@@ -93,37 +92,28 @@ fn adjustments_are_what_exits_add() {
     let amount = |process: u8, slot: usize, number: u16| {
         1 + 40 * i16::from(process) + 9 * slot as i16 + number as i16
     };
-    for round in 0..SEMAPHORES as u16 {
-        let number = |process: u8| (u16::from(process) + round) % SEMAPHORES as u16;
-        for process in 1..=PROCESSES as u8 {
-            for (slot, &set) in sets.iter().enumerate() {
-                let number = number(process);
+    for process in 1..=PROCESSES as u8 {
+        for (slot, &set) in sets.iter().enumerate() {
+            for number in 0..SEMAPHORES as u16 {
                 let operation = Operation::new(number, amount(process, slot, number)).undo();
                 let _ = host.operate(process, set, &[operation]).expect("done");
             }
         }
-        for process in 1..=PROCESSES as u8 {
-            let mut wanted = [[0; SEMAPHORES]; SETS];
-            for (slot, row) in wanted.iter_mut().enumerate() {
-                let number = number(process);
-                row[usize::from(number)] = -amount(process, slot, number);
+    }
+    for process in 1..=PROCESSES as u8 {
+        let before = host.clone();
+        let adjustments = host.adjustments(process);
+        let _ = host.exit(process).expect("done");
+        for (slot, &set) in sets.iter().enumerate() {
+            for number in 0..SEMAPHORES as u16 {
+                let adjustment = adjustments[slot][usize::from(number)];
+                assert_eq!(adjustment, -amount(process, slot, number));
+                let [was, is] =
+                    [&before, &host].map(|host| host.query(1, set, number).expect("seen").value);
+                assert_eq!(i32::from(is), i32::from(was) + i32::from(adjustment));
             }
-            assert_eq!(host.adjustments(process), wanted);
-            exit_adds(&mut host, process, &sets);
         }
+        assert_eq!(host.adjustments(process), [[0; SEMAPHORES]; SETS]);
     }
     assert_eq!([host.adjustments(0), host.adjustments(9)], [[[0; SEMAPHORES]; SETS]; 2]);
-}
-
-fn exit_adds(host: &mut Host, process: u8, sets: &[i32; SETS]) {
-    let (before, adjustments) = (host.clone(), host.adjustments(process));
-    let _ = host.exit(process).expect("done");
-    for (&set, row) in sets.iter().zip(&adjustments) {
-        for (number, &adjustment) in (0..).zip(row) {
-            let [was, is] =
-                [&before, host].map(|host| host.query(1, set, number).expect("seen").value);
-            assert_eq!(i32::from(is), i32::from(was) + i32::from(adjustment));
-        }
-    }
-    assert_eq!(host.adjustments(process), [[0; SEMAPHORES]; SETS]);
 }

@@ -3,7 +3,6 @@
 mod bodies;
 mod clock;
 mod endings;
-mod entries;
 mod hosts;
 mod modes;
 mod positions;

@@ -22,7 +22,6 @@ fn errors() {
         (Error::NotPermitted, "EACCES (13): the set's mode does not permit it"),
         (Error::NotOwner, "EPERM (1): the set is another user's"),
         (Error::NoSlot, "ENOSPC (28): no slot is free"),
-        (Error::NoUndoEntry, "ENOSPC (28): over 32 undo entries would be in use"),
         (Error::BadValue, "ERANGE (34): a value to set is not 0 to 32,767"),
         (Error::BadTime, "EINVAL (22): a time is below the last, or above 2^63-1"),
         (

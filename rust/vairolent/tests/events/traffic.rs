@@ -1,12 +1,12 @@
 //! Events with arbitrary arguments: each is answered, refusals change nothing, only sleepers wake,
-//! what has a position is as that operation decides it, the clock ends those who are due, calls are
-//! denied by owner and mode, and refused where over 32 undo entries would be in use.
+//! what has a position is as that operation decides it, the clock ends those who are due, and calls
+//! are denied by owner and mode.
 
 use std::collections::HashSet;
 
 use vairolent::{
-    Answer, Ending, Error, Host, Operation, Waking, Wakings, MODE_MAX, OPERATIONS, POOL, PROCESSES,
-    SETS, TIME_MAX,
+    Answer, Ending, Error, Host, Operation, Waking, Wakings, MODE_MAX, OPERATIONS, PROCESSES,
+    TIME_MAX,
 };
 
 const EVENTS: usize = 200_000;
@@ -32,15 +32,6 @@ impl Random {
             self.bits()
         } else {
             self.below(bound)
-        }
-    }
-
-    /// Semaphores of a set: mostly a few.
-    fn count(&mut self) -> u8 {
-        if self.below(3) == 0 {
-            8
-        } else {
-            self.near(4) as u8
         }
     }
 
@@ -73,20 +64,7 @@ impl Random {
             flags: flags[self.below(flags.len() as u64) as usize],
         }
     }
-
-    /// Mostly two, at times an undo at each semaphore, or any number of them.
-    fn operations(&mut self) -> Vec<Operation> {
-        let undo = |number| Operation::new(number, 1).undo();
-        match self.below(20) {
-            0 => (0..self.below(OPERATIONS as u64 + 4)).map(|_| self.operation()).collect(),
-            1..=5 => (0..self.below(9) as u16).map(undo).collect(),
-            _ => vec![self.operation(), self.operation()],
-        }
-    }
 }
-
-/// An undo entry: of a process, at a slot and a number.
-type Entry = (u8, usize, usize);
 
 /// An operate, as it is handed in at a time.
 struct Call {
@@ -115,14 +93,6 @@ impl Call {
     fn bits(&self) -> u16 {
         let bits = self.operations.iter().map(|each| if each.amount == 0 { READ } else { ALTER });
         bits.fold(0, |all, bit| all | bit)
-    }
-
-    /// The undo entries that it asks for, and has in use while it sleeps.
-    fn entries(&self) -> impl Iterator<Item = Entry> + '_ {
-        let undone = |each: &&Operation| each.flags & Operation::UNDO != 0 && each.amount != 0;
-        let slot = self.identifier as usize % SETS;
-        let entry = move |each: &Operation| (self.process, slot, usize::from(each.number));
-        self.operations.iter().filter(undone).map(entry)
     }
 
     /// Is its wait over by this time?
@@ -255,20 +225,6 @@ impl Traffic {
         assert_eq!(refused, denied);
     }
 
-    /// Would over 32 undo entries be in use by this call?
-    fn exceeds(&self, call: &Call) -> bool {
-        let mut entries: HashSet<Entry> = self.asleep.iter().flat_map(Call::entries).collect();
-        for process in 1..=PROCESSES as u8 {
-            for (slot, row) in self.host.adjustments(process).iter().enumerate() {
-                let held = (0..row.len()).filter(|&number| row[number] != 0);
-                entries.extend(held.map(|number| (process, slot, number)));
-            }
-        }
-        assert!(entries.len() <= POOL);
-        entries.extend(call.entries());
-        entries.len() > POOL
-    }
-
     /// Takes out the call of a process that is asleep.
     fn take(&mut self, process: u8) -> Option<Call> {
         let at = self.asleep.iter().position(|call| call.process == process)?;
@@ -296,7 +252,7 @@ impl Traffic {
     }
 
     fn create(&mut self) -> Result<(), Error> {
-        let (process, count) = (self.process(), self.random.count());
+        let (process, count) = (self.process(), self.random.near(4) as u8);
         let mode = self.random.mode();
         let told = self.host.create(process, count, mode);
         self.check_awake(process, &told);
@@ -318,21 +274,18 @@ impl Traffic {
 
     fn operate(&mut self) -> Result<(), Error> {
         let (process, identifier) = (self.process(), self.identifier());
-        let operations = self.random.operations();
+        let above = OPERATIONS as u64 + 4;
+        let length = if self.random.below(20) == 0 { self.random.below(above) } else { 2 };
+        let operations: Vec<Operation> = (0..length).map(|_| self.random.operation()).collect();
         let (start, wait) = (self.time, self.random.wait());
         let call = Call { process, identifier, operations, start, wait };
-        let (before, exceeds) = (self.host.clone(), self.exceeds(&call));
+        let before = self.host.clone();
         let answer = call.hand_in(call.operations.len(), &mut self.host);
         self.check_awake(process, &answer);
         // What these refuse is not asked for permission.
         let earlier = [Error::Invalid, Error::TooManyOperations, Error::NoSemaphore];
         if !earlier.iter().any(|&error| answer == Err(error)) {
             self.check(process, identifier, call.bits(), &answer);
-        }
-        // .. and what these refuse not for undo entries.
-        let callers = [Error::NoProcess, Error::ProcessAsleep, Error::NotPermitted];
-        if !earlier.iter().chain(&callers).any(|&error| answer == Err(error)) {
-            assert_eq!(answer == Err(Error::NoUndoEntry), exceeds);
         }
         call.check(&before, &answer);
         call.check_wait(&before, &answer);
@@ -461,7 +414,6 @@ fn every_error_and_every_ending_comes() {
         Error::NotPermitted,
         Error::NotOwner,
         Error::NoSlot,
-        Error::NoUndoEntry,
         Error::BadValue,
         Error::BadTime,
         Error::WouldSleep { position: 0 },

@@ -4,7 +4,6 @@
 mod attack;
 mod client;
 mod daemon;
-mod entries;
 mod exits;
 mod folder;
 mod full;

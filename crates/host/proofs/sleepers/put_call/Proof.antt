@@ -1,5 +1,5 @@
 use Rattle.std.proofs.Common.{refl, arith, length-set, rules}
-use Rattle.host.specs.Parts.{sleeps_at, sizes, names, undos}
+use Rattle.host.specs.Parts.{sleeps_at, sizes, names}
 use Rattle.host.proofs.PartLaws.{write_beyond}
 use Rattle.host.proofs.SleeperLaws.{says, says_byte, same_beyond}
 use Rattle.host.proofs.sleepers.put_call.Statement.{statement}
@@ -26,12 +26,6 @@ add-all-3 c = search rules
 slice-write-all-3 : tie.Need-slice-write-all-3
 slice-write-all-3 c = simp length-set (omega arith)
 
-add-all-4 : tie.Need-overflow-add-all-4
-add-all-4 c = search rules
-
-slice-write-all-4 : tie.Need-slice-write-all-4
-slice-write-all-4 c = simp length-set (omega arith)
-
 returns : tie.Need-returns
 returns c =
     let e = c.before.entry_of in
@@ -41,8 +35,7 @@ returns c =
     let s₀ = says a.host.now (search rules) in
     let s₁ = says_byte s₀ sleeps_at i a.slot refl l (search rules) in
     let s₂ = says_byte s₁ sizes i a.size refl l (search rules) in
-    let s₃ = says_byte s₂ names i a.names refl l (search rules) in
-    rw (← e.ensures) (says_byte s₃ undos i a.undos refl l (search rules)).same
+    rw (← e.ensures) (says_byte s₂ names i a.names refl l (search rules)).same
 
 returns-2 : tie.Need-returns-2
 returns-2 c =
@@ -52,8 +45,7 @@ returns-2 c =
     let l = c.if1.false in
     let e₁ = write_beyond sleeps_at i a.slot a.host.now l in
     let e₂ = same_beyond a.host.now e₁ sizes i a.size l in
-    let e₃ = same_beyond a.host.now e₂ names i a.names l in
-    rw (← e.ensures) (same_beyond a.host.now e₃ undos i a.undos l)
+    rw (← e.ensures) (same_beyond a.host.now e₂ names i a.names l)
 
 pub put-call-spec : {M : Type 1} → statement M
 put-call-spec =
@@ -66,7 +58,5 @@ put-call-spec =
     slice-write-all-2
     add-all-3
     slice-write-all-3
-    add-all-4
-    slice-write-all-4
     returns
     returns-2)

@@ -1,4 +1,5 @@
--- The invariant: the code of the operations from here is that of all, and each mask with the bits of those from here that of all.
+-- The invariant: the code of the operations from here is that of all, and the mask with the bits of those from here that of
+-- all.
 use borrow.Author.Rules.{rules}
 use borrow.Author.Tests.{le-leb, lt-leb}
 use mathlib.Core.Path.{◌≡◌, refl, sym, ap, ◌∙◌}
@@ -8,29 +9,26 @@ use native.Mathlib.Omega.{arith}
 use Prim.Native.Nat.{ℕ, ◌+◌, ◌-◌, ◌≤◌}
 use lib.Bits.{bit_or}
 use mir.Syntax.{w16}
-use mir.Val.{to_z, of_z}
 use mir.Facts.{to_z-of_z}
 use Rattle.model.specs.Operation.{operations_of, is_zero}
-use Rattle.model.specs.Pool.{undoes, undoing}
-use Rattle.judging.specs.Named.{number_bit, named_within}
+use Rattle.judging.specs.Named.{named_within}
 use Rattle.judging.proofs.Operations.{rest, all}
-use Rattle.judging.proofs.NamedLaws.{more, done, more_undone, done_undone}
+use Rattle.judging.proofs.NamedLaws.{more, done}
 use Rattle.judging.proofs.Refusals as law
 use Rattle.judging.proofs.checks.check_array.Statement.{statement}
 use Rattle.judging.proofs.checks.check_array.Tie as tie
 
 abbrev invariant-loop : tie.invariant-loop
-invariant-loop count reads alters bytes both past operations allowed₀ names₀ undos₀ i₀ allowed names undos i =
+invariant-loop count reads alters bytes both past operations allowed₀ names₀ i₀ allowed names i =
     (i ≤ operations)
     × (law.refusal count reads alters allowed (rest bytes i) ≡ law.refusal count reads alters true (operations_of bytes))
     × (named_within names (rest bytes i) ≡ named_within 0 (operations_of bytes))
-    × (named_within undos (undoing (rest bytes i)) ≡ named_within 0 (undoing (operations_of bytes)))
 
 abbrev decreases-loop : tie.decreases-loop
-decreases-loop count reads alters bytes both past operations allowed₀ names₀ undos₀ i₀ allowed names undos i = operations - i
+decreases-loop count reads alters bytes both past operations allowed₀ names₀ i₀ allowed names i = operations - i
 
 loop-holds : tie.Need-loop-init invariant-loop decreases-loop
-loop-holds c = (search rules, rw all, rw all, rw all)
+loop-holds c = (search rules, rw all, rw all)
 
 mul-operation-at : tie.Need-overflow-mul-operation-at invariant-loop decreases-loop
 mul-operation-at c = omega arith
@@ -50,13 +48,10 @@ returns c =
     let r = c.before.before in
     let l = r.before.before in
     let a = (start l).args in
-    (law.high a.count a.reads a.alters _ l.loop.i l.loop.allowed r.operation-at.result r.before.loop-test.true r.operation-at.ensures (le-leb _ _ c.if1.true) ∙ l.loop.invariant.1, (refl, refl))
+    (law.high a.count a.reads a.alters _ l.loop.i l.loop.allowed r.operation-at.result r.before.loop-test.true r.operation-at.ensures (le-leb _ _ c.if1.true) ∙ l.loop.invariant.1, refl)
 
 number-bit-requires : tie.Need-number-bit-requires invariant-loop decreases-loop
 number-bit-requires c κs = search rules
-
-undo-bit-requires : tie.Need-undo-bit-requires invariant-loop decreases-loop
-undo-bit-requires c κs = search rules
 
 may-requires : tie.Need-may-requires invariant-loop decreases-loop
 may-requires c κs = search rules
@@ -68,22 +63,11 @@ loop-less : tie.Need-loop-smaller invariant-loop decreases-loop
 loop-less c = search rules
 
 abbrev Turn : Type 0
-Turn = tie.After-undo-bit invariant-loop decreases-loop
+Turn = tie.After-number-bit invariant-loop decreases-loop
 
--- where the bit of its semaphore was made, and where the operation was read
-abbrev bit : Turn → tie.After-number-bit invariant-loop decreases-loop
-bit c = c.before.before
-
+-- where the operation was read
 abbrev read : Turn → tie.After-operation-at invariant-loop decreases-loop
-read c = (bit c).before.before.before
-
--- an amount is in its range, as the structure tells
-amount-is : (c : Turn) → to_z w16 (of_z w16 (read c).operation-at.result.amount) ≡ (read c).operation-at.result.amount
-amount-is c = to_z-of_z {w = w16} {z = (read c).operation-at.result.amount} (record { sfits = c.before.struct_told.given.1.0.1 })
-
--- the bit, if the operation undoes
-undo-is : (c : Turn) → c.undo-bit.result ≡ cond (undoes (read c).operation-at.result) (number_bit (read c).operation-at.result.number) 0
-undo-is c = (rw (amount-is c) at c.undo-bit.ensures) ∙ ap (λ (b : ℕ). cond (undoes (read c).operation-at.result) b 0) (bit c).number_bit.ensures
+read c = c.before.before.before
 
 -- what the caller may is what the definition asks
 abbrev Asked : Turn → Bool → Type 0
@@ -91,7 +75,9 @@ Asked c may = let a = (start (read c).before.before).args in may ≡ cond (is_ze
 
 may-is : (c : tie.After-may invariant-loop decreases-loop) → Asked c.before.before.before c.may.result
 may-is c =
-    rw (amount-is c.before.before.before) at c.may.ensures
+    let t = c.before.before.before in
+    let e = to_z-of_z {w = w16} {z = (read t).operation-at.result.amount} (record { sfits = c.before.struct_told.given.1.0.1 }) in
+    rw e at c.may.ensures
 
 both_is : (c : tie.Else2 invariant-loop decreases-loop) → Asked c.before true
 both_is c = let a = (start (read c.before).before.before).args in law.both_is a.reads a.alters (is_zero (read c.before).operation-at.result.amount) c.if2.false
@@ -108,7 +94,7 @@ goes c may e =
     let r = read c in
     let l = r.before.before in
     let a = (start l).args in
-    law.on a.count a.reads a.alters _ l.loop.i l.loop.allowed r.operation-at.result r.before.loop-test.taken r.operation-at.ensures (lt-leb _ _ (bit c).before.if1.false) may e ∙ l.loop.inv.1
+    law.on a.count a.reads a.alters _ l.loop.i l.loop.allowed r.operation-at.result r.before.loop-test.taken r.operation-at.ensures (lt-leb _ _ c.before.if1.false) may e ∙ l.loop.inv.1
 
 loop-again : tie.Need-loop-preserved invariant-loop decreases-loop
 loop-again c =
@@ -117,13 +103,11 @@ loop-again c =
     let l = r.before.before in (
       search rules,
       ⊎_elim
-          (λ v. rw v.3 (goes t _ (may-is (record { before = record { before = record { before = t; if2 = v.0 }; struct-told2 = v.1 }; may = v.2 }))))
-          (λ v. rw (v.1 ∙ sym (law.and-true l.loop.allowed)) (goes t true (both_is (record { before = t; if2 = v.0 }))))
+          (λ v. rw v.3 (goes t _ (may-is (record { before = record { before = record { before = t; if2 = v.0 }; struct_told = v.1 }; may = v.2 }))))
+          (λ v. rw (v.1 ∙ sym (law.and_true l.loop.allowed)) (goes t true (both_is (record { before = t; if2 = v.0 }))))
           c.if2.branch,
-      ap (λ (b : ℕ). named_within (bit_or l.loop.names b) (rest (start l).args.bytes.now (l.loop.i + 1))) (bit t).number_bit.ensures
+      ap (λ (b : ℕ). named_within (bit_or l.loop.names b) (rest (start l).args.bytes.now (l.loop.i + 1))) t.number_bit.ensures
           ∙ more _ l.loop.names l.loop.i r.operation-at.result r.before.loop-test.taken r.operation-at.ensures ∙ l.loop.inv.2,
-      ap (λ (b : ℕ). named_within (bit_or l.loop.undos b) (undoing (rest (start l).args.bytes.now (l.loop.i + 1)))) (undo-is t)
-          ∙ more_undone _ l.loop.undos l.loop.i r.operation-at.result r.before.loop-test.taken r.operation-at.ensures ∙ l.loop.inv.3,
     )
 
 returns-2 : tie.Need-returns-2 invariant-loop decreases-loop
@@ -131,17 +115,14 @@ returns-2 c =
     let l = c.before.before in
     let a = (start l).args in (
       law.end a.count a.reads a.alters a.bytes.now l.loop.i l.loop.allowed (omega arith) true c.if3.true ∙ l.loop.invariant.1,
-      (
-        sym (done _ l.loop.names l.loop.i (omega arith)) ∙ l.loop.invariant.2,
-        sym (done_undone _ l.loop.undos l.loop.i (omega arith)) ∙ l.loop.invariant.3,
-      ),
+      sym (done _ l.loop.names l.loop.i (omega arith)) ∙ l.loop.invariant.2,
     )
 
 returns-3 : tie.Need-returns-3 invariant-loop decreases-loop
 returns-3 c =
     let l = c.before.before in
     let a = (start l).args in
-    (law.end a.count a.reads a.alters a.bytes.now l.loop.i l.loop.allowed (omega arith) false c.if3.false ∙ l.loop.invariant.1, (refl, refl))
+    (law.end a.count a.reads a.alters a.bytes.now l.loop.i l.loop.allowed (omega arith) false c.if3.false ∙ l.loop.invariant.1, refl)
 
 pub check-array-spec : {M : Type 1} → statement M
 check-array-spec =
@@ -154,7 +135,6 @@ check-array-spec =
     operation-at-requires
     returns
     number-bit-requires
-    undo-bit-requires
     may-requires
     add-i
     loop-less
