@@ -3,6 +3,7 @@
 // src/parts.rt has the table of the row's parts, and nothing else knows where a part lies: readers and writers stand here,
 // by subject. Each is total. What lies beyond a part reads as 0 and is not written. A writer promises the whole row after
 // it, `row_in`, by an equation; proofs/Whole.antt has that two rows which say the same are the same bytes.
+#![tactic(auto)]
 mod adjustments;
 mod bytes;
 mod callers;

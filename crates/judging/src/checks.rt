@@ -18,7 +18,7 @@ fn may(amount: i16, reads: bool, alters: bool) -> bool
 
 // What the checks of an array come to: the code of the first that applies, 0 if none does; then the semaphores that the array
 // names, as a mask.
-#[derive(Drop)]
+#[derive(Clone, Copy)]
 pub struct Checked {
     pub code: u8,
     pub names: u8,

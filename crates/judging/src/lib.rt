@@ -4,6 +4,7 @@
 // equation with a definition of the crate model (`value_of`, `value_in`, `judge`, `stop_of`: of specs/), for every argument.
 // An array, or the values of a setting, is the bytes as they lie in the lent file; bytes that make no whole operation or value at
 // the end are ignored, as in the definition.
+#![tactic(auto)]
 mod amount;
 mod checks;
 mod identifier;

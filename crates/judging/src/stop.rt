@@ -11,7 +11,7 @@ use crate::operation::operation_at;
 use model::{OPERATION_BYTES, SEMAPHORES};
 
 // An operation that stops: its number within a set, and its amount.
-#[derive(Drop)]
+#[derive(Clone, Copy)]
 pub struct Stop {
     pub number: u16,
     pub amount: i16,

@@ -12,7 +12,7 @@ use crate::operation::{no_wait, operation_at, with_undo};
 use model::{Next, OPERATION_BYTES, Operation, Outcome, SEMAPHORES, Undo};
 
 // The outcome, and the position of the operation that decided.
-#[derive(Drop)]
+#[derive(Clone, Copy)]
 pub struct Verdict {
     pub outcome: Outcome,
     pub position: usize,

@@ -51,7 +51,7 @@ lasts_zero : (l : List ℕ) (slot p : ℕ) (os : List Operation) (j : ℕ) → g
     → get_or (lasts_after l slot p os) j 0 ≡ 0
 unfolding lasts_after
 lasts_zero l slot p [] j h others = h
-lasts_zero l slot p (o ∷ os) j h others = lasts_zero _ slot p os j (get_or-set_other l (row slot + o.number) j p 0 (first others) ∙ h) (rest others)
+lasts_zero l slot p (o ∷ os) j h others = lasts_zero (set l (row slot + o.number) p) slot p os j (get_or-set_other l (row slot + o.number) j p 0 (first others) ∙ h) (rest others)
 
 module _ {sets : List Set} (counts : All (λ (k : Set). k.count ≤ semaphores) sets) (t : Table) (s : Sleeper) (g : Good t) (f : Fits sets s) where
   applied_clean : Clean sets t → (c : Copies) → Fine c → ((n : ℕ) → count_at sets s.slot ≤ n → n < semaphores → Idle n c) → Clean sets (applied t s c)

@@ -3,6 +3,7 @@
 // The definitions that every promise cites stand in specs/, in the order of the rules they say; the laws about them,
 // and the claim that the quick waking rule equals the plain one, in proofs/. What a host holds is the `State` of
 // specs/State.antt; the crate `host` says where each number of it lies.
+#![tactic(auto)]
 
 // The limits. Each has its twin in specs/Limits.antt.
 pub const SETS: usize = 4;
@@ -49,7 +50,7 @@ pub const WAKING_BYTES: usize = ONE_WAKING * PROCESSES;
 
 // A slot. `count` is the number of semaphores, 0 in a free slot; owner and group are its creator's, and the mode has nine
 // permission bits.
-#[derive(Drop)]
+#[derive(Clone, Copy)]
 pub struct Set {
     pub generation: u16,
     pub count: u8,
@@ -59,14 +60,14 @@ pub struct Set {
 }
 
 // Who asks: the user and the group number of a process.
-#[derive(Drop)]
+#[derive(Clone, Copy)]
 pub struct Caller {
     pub user: u32,
     pub group: u32,
 }
 
 // One operation of an array, decoded.
-#[derive(Drop)]
+#[derive(Clone, Copy)]
 pub struct Operation {
     pub number: u16,
     pub amount: i16,
@@ -74,7 +75,7 @@ pub struct Operation {
 }
 
 // What an amount makes of a value.
-#[derive(Drop)]
+#[derive(Clone, Copy)]
 pub enum Next {
     Over,
     Stop,
@@ -82,14 +83,14 @@ pub enum Next {
 }
 
 // What an amount makes of an adjustment.
-#[derive(Drop)]
+#[derive(Clone, Copy)]
 pub enum Undo {
     Out,
     To(i16),
 }
 
 // What judging an array comes to.
-#[derive(Drop)]
+#[derive(Clone, Copy)]
 pub enum Outcome {
     Done,
     Sleep,
@@ -98,14 +99,14 @@ pub enum Outcome {
 }
 
 // The operation that decided how an array was judged, by its position from 0; or that none did.
-#[derive(Drop)]
+#[derive(Clone, Copy)]
 pub enum Position {
     Nowhere,
     At(u8),
 }
 
 // The copy that an array is judged on: a set's values, and the caller's adjustments for them.
-#[derive(Drop)]
+#[derive(Clone, Copy)]
 pub struct Copies {
     pub values: [u16; SEMAPHORES],
     pub adjustments: [i16; SEMAPHORES],
@@ -113,7 +114,7 @@ pub struct Copies {
 
 // The outcome, the position of the operation that decided (the number of operations, if none did), and the copies: as the
 // array leaves them if it is done, else as they were.
-#[derive(Drop)]
+#[derive(Clone, Copy)]
 pub struct Judged {
     pub outcome: Outcome,
     pub position: usize,
@@ -121,21 +122,21 @@ pub struct Judged {
 }
 
 // How long a call may sleep: without end, or so many milliseconds.
-#[derive(Drop)]
+#[derive(Clone, Copy)]
 pub enum Wait {
     Endless,
     Milliseconds(u32),
 }
 
 // Which waking rule an event goes by.
-#[derive(Drop)]
+#[derive(Clone, Copy)]
 pub enum Engine {
     Plain,
     Quick,
 }
 
 // A sleeper that was ended, its code, and the operation that decided.
-#[derive(Drop)]
+#[derive(Clone, Copy)]
 pub struct Waking {
     pub process: u32,
     pub code: i32,
@@ -149,7 +150,7 @@ pub const ALL_READ: usize = ONE_READ * SEMAPHORES;
 
 // An event that is handed in, with the process that calls. The bytes of an operate's operations, or of a setting's values, stand
 // beside it.
-#[derive(Drop)]
+#[derive(Clone, Copy)]
 pub enum Event {
     Create {
         process: u8,
@@ -202,7 +203,7 @@ pub enum Event {
 
 // What an event tells, beside the wakings in the list that it was lent: the operation that decided, its code, its value, its
 // looks, and how many it woke.
-#[derive(Drop)]
+#[derive(Clone, Copy)]
 pub struct Told {
     pub position: Position,
     pub code: i32,
@@ -213,7 +214,7 @@ pub struct Told {
 
 // What a query answers; its looks are 0 like those of every event that wakes nobody. The host stays as it is.
 #[repr(C)]
-#[derive(Drop)]
+#[derive(Clone, Copy)]
 pub struct Queried {
     pub code: i32,
     pub value: u16,
@@ -228,7 +229,7 @@ pub struct Queried {
 // What a whole set shows, by the number of a semaphore: of each its value, its last process, and who waits there, as a query
 // of it says; 0 from the set's count on. `judged` is the number of arrays that were judged for it.
 #[repr(C)]
-#[derive(Drop)]
+#[derive(Clone, Copy)]
 pub struct QueriedSet {
     pub code: i32,
     pub count: u8,
@@ -242,14 +243,14 @@ pub struct QueriedSet {
 }
 
 // What a reading answers: its code, and how many semaphores it shows. Their numbers stand in what it was lent for them.
-#[derive(Drop)]
+#[derive(Clone, Copy)]
 pub struct Reading {
     pub code: i32,
     pub count: u8,
 }
 
 // What any event answers.
-#[derive(Drop)]
+#[derive(Clone, Copy)]
 pub enum Reply {
     Told(Told),
     Seen(Queried),

@@ -3,6 +3,7 @@
 // `start` checks the file and writes the first line; `piece` runs events on the host that it is lent and writes their lines
 // while there is room for one more. Each promises one equation with its definition in specs/Replay.antt; proofs/Whole.antt
 // has that the pieces put together are the whole text.
+#![tactic(auto)]
 ghost use Rattle.std.specs.Prelude.{◌≡◌, ◌+◌, ◌≤◌, length};
 ghost use Rattle.model.specs.State.{fresh_state};
 ghost use Rattle.host.specs.Holding.{host_in, host_of};
@@ -18,7 +19,7 @@ use service::run;
 
 // How far a replay has come: the position of the next event, how many are left, and where the next body begins; and how
 // many bytes of the buffer were written on the way here. The host stands beside it, and the caller keeps it.
-#[derive(Drop)]
+#[derive(Clone, Copy)]
 pub struct Progress {
     pub position: usize,
     pub left: usize,

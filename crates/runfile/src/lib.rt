@@ -3,6 +3,7 @@
 // specs/ says what a file means, in the steps fields, table, bodies, whole. `code` tells a good file from a bad one; a good
 // one's bodies are then read in place, from the end of the table on: `event_at` and `handed_at` read one, and its
 // `size_at` leads to the next. proofs/Walk.antt has what such a walk goes by. What is public here asks nothing of its caller.
+#![tactic(auto)]
 mod bodies;
 mod fields;
 mod table;

@@ -16,7 +16,7 @@ use service_waking::bit_of;
 
 // At each semaphore of a set the processes that wait there, as masks: for an increase, and for zero; and how many arrays were
 // judged to find them.
-#[derive(Drop)]
+#[derive(Clone, Copy)]
 pub struct Waiters {
     pub increase: [u8; SEMAPHORES],
     pub zero: [u8; SEMAPHORES],

@@ -1,4 +1,5 @@
 // A part of the service: the queue of the sleepers, in the host's row.
+#![tactic(auto)]
 ghost use Rattle.std.specs.Prelude.{◌≡◌, ◌≢◌, [], ◌∷◌, ◌++◌, ◌<◌, ◌≤◌, pos, length};
 ghost use Rattle.model.specs.Limits.{processes};
 ghost use Rattle.model.specs.State.{Sleeper};
@@ -117,7 +118,7 @@ pub fn leave(host: &mut [u8; HOST_BYTES], process: u8) -> bool
 }
 
 // Whom an event ends without a look: the sleepers of a slot that is removed, or those whose wait is over at a time.
-#[derive(Drop)]
+#[derive(Clone, Copy)]
 pub enum Ending {
     Removal(usize),
     Expiry(u64),

@@ -2,6 +2,7 @@
 //
 // A rule is lent the row, the adjustments and the list of wakings; it is handed the looks and wakings so far, and returns
 // them. Its promise is one equation with the model's rule on the world that they hold.
+#![tactic(auto)]
 ghost use Rattle.std.specs.Prelude.{◌≡◌, ◌+◌, ◌≤◌, nat_abs, length, get_or};
 ghost use Rattle.model.specs.Limits.{slots};
 ghost use Rattle.model.specs.State.{no_sleeper};
@@ -27,7 +28,7 @@ use service_table::{apply, differing_mask};
 use wakings::note;
 
 // The looks and the wakings so far.
-#[derive(Drop)]
+#[derive(Clone, Copy)]
 pub struct Tally {
     pub looks: usize,
     pub woken: usize,
@@ -56,7 +57,7 @@ fn ending(outcome: Outcome) -> u8
 // What a look told: the position where judging ended, of a done array the copies of the values and of the adjustments as it
 // leaves them, of any other zeros, and the outcome. It stands last: behind its one byte the copies would be read across words,
 // which takes longer.
-#[derive(Drop)]
+#[derive(Clone, Copy)]
 struct Looked {
     pub position: usize,
     pub values: [u16; SEMAPHORES],

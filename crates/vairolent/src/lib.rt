@@ -4,6 +4,7 @@
 // promises is the service's own promise, with what is told as C has it (proofs/Calls.antt). So does a whole set, which is shown and
 // wakes nobody: it has all that the event read all shows, and more. Nothing at run time asks for the premise `Held`: a caller in
 // another language keeps it, by handing in the parts of `vairolent_fresh`, as the last event left them.
+#![tactic(auto)]
 ghost use Rattle.std.specs.Prelude.{◌≡◌, []};
 ghost use Rattle.model.specs.State.{fresh_state};
 ghost use Rattle.model.specs.Waking.{waker};
@@ -24,7 +25,7 @@ use model::{
 
 // What a caller keeps and lends: a host's row of bytes, its undo adjustments, and a list for the wakings of an event.
 #[repr(C)]
-#[derive(Drop)]
+#[derive(Clone, Copy)]
 pub struct Fresh {
     pub row: [u8; HOST_BYTES],
     pub adjustments: [i16; ALL_ADJUSTMENTS],
@@ -33,7 +34,7 @@ pub struct Fresh {
 
 // The operation that decided: whether there is one, and its position, 0 if there is none.
 #[repr(C)]
-#[derive(Drop)]
+#[derive(Clone, Copy)]
 pub struct Decided {
     pub there: bool,
     pub at: u8,
@@ -41,7 +42,7 @@ pub struct Decided {
 
 // What an event tells.
 #[repr(C)]
-#[derive(Drop)]
+#[derive(Clone, Copy)]
 pub struct Reported {
     pub code: i32,
     pub value: u32,
@@ -52,7 +53,7 @@ pub struct Reported {
 
 // What the archive was built for: the service's limits, and the sizes of a host's row and adjustments.
 #[repr(C)]
-#[derive(Drop)]
+#[derive(Clone, Copy)]
 pub struct Limits {
     pub sets: usize,
     pub semaphores: usize,

@@ -1,0 +1,13 @@
+use Rattle.std.proofs.Common.{◌≡◌, ◌-◌, length, get_or, refl, ap, ◌∙◌, arith, w16, Fits, rules}
+use Rattle.model.specs.Limits.{semaphores}
+use Rattle.model.specs.State.{row}
+use Rattle.host.specs.Parts.{values, row_in}
+use Rattle.host.proofs.SleeperLaws.{Writing, write_none, write_more, write_all, write_away}
+use Rattle.host.proofs.SemaphoreLaws.{write_further}
+use Rattle.host.proofs.semaphores.put_values.Given as goal
+
+abbrev pub invariant-loop-j : goal.invariant-loop-j
+invariant-loop-j l = Writing values l.initial.all (row l.slot) l.new l.all l.j
+
+abbrev pub decreases-loop-j : goal.decreases-loop-j
+decreases-loop-j l = semaphores - l.j

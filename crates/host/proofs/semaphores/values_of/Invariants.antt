@@ -1,0 +1,14 @@
+use Rattle.std.proofs.Common.{◌-◌, sym, refl, ◌∙◌, arith, rules}
+use Rattle.model.specs.Limits.{semaphores}
+use Rattle.model.specs.State.{row}
+use Rattle.host.specs.Parts.{values, row_in}
+use Rattle.host.proofs.PartLaws.{length_part}
+use Rattle.host.proofs.RowLaws.{Reading, read_none, read_more, read_all, from_beyond}
+use Rattle.host.proofs.SemaphoreLaws.{read_further}
+use Rattle.host.proofs.semaphores.values_of.Given as goal
+
+abbrev pub invariant-loop-j : goal.invariant-loop-j
+invariant-loop-j l = Reading 0 semaphores (row l.slot) (row_in l.host values) l.out l.j
+
+abbrev pub decreases-loop-j : goal.decreases-loop-j
+decreases-loop-j l = semaphores - l.j

@@ -1,0 +1,13 @@
+use Rattle.std.proofs.Common.{sym, refl, rules}
+use Rattle.host.specs.Parts.{names}
+use Rattle.host.proofs.PartLaws.{read_beyond}
+use Rattle.host.proofs.SleeperLaws.{byte_read}
+use Rattle.host.proofs.sleepers.names_at.Goals as goal
+
+pub returns-then-i-lt-PROCESSES : goal.returns-then-i-lt-PROCESSES
+returns-then-i-lt-PROCESSES c =
+    let e = c.entry_of-i in
+    rw (← e.ensures) (sym (byte_read names e.result c.args.host.now refl c.if-i-lt-PROCESSES.true))
+
+pub returns-else-i-lt-PROCESSES : goal.returns-else-i-lt-PROCESSES
+returns-else-i-lt-PROCESSES c = let e = c.entry_of-i in rw (← e.ensures) (sym (read_beyond names e.result c.args.host.now c.if-i-lt-PROCESSES.false))

@@ -1,0 +1,82 @@
+use borrow.Author.Rules.{rules}
+use borrow.Author.Tests.{eq-eqb, ne_eqb}
+use mathlib.Core.Path.{◌≡◌, sym, ◌∙◌}
+use mathlib.Core.Bool.{true, false}
+use mathlib.Core.Logic.{⊎_elim}
+use lib.IntN.{ℤ, pos}
+use lib.Signed.{lt_z}
+use mir.Syntax.{w32}
+use mir.Facts.{to_z-of_z}
+use mir.Val.{to_z, of_z}
+use Rattle.model.specs.Operation.{is_zero}
+use Rattle.judging.specs.Stop.{moved_to}
+use Rattle.judging.proofs.Signed.{clash, unsigned, at_most}
+use Rattle.judging.proofs.Values.{next_is, next_zero, zero_is, lowered_fits}
+use Rattle.judging.proofs.amount.next_value.Goals as goal
+use Rattle.judging.proofs.amount.next_value.Goals.{After-moved-new, Else-new-lt0, Then-amount-eq0, Then-new-le-MOST}
+
+-- An amount of 0 is told apart; of any other, where it leads decides (proofs/Values.antt).
+-- an amount of 0
+zero : (c : Then-amount-eq0) → is_zero c.args.amount ≡ true
+zero c = sym (zero_is c.ranges.amount) ∙ eq-eqb _ _ c.if-amount-eq0.true
+
+-- where the amount leads
+abbrev new : After-moved-new → ℤ
+new c = moved_to c.before.before.args.value c.before.before.args.amount
+
+-- .. as it stands in a local
+new_is : (c : After-moved-new) → to_z w32 (of_z w32 c.moved-new.result) ≡ new c
+new_is c =
+    let not_zero : is_zero c.args.amount ≡ false = sym (zero_is c.ranges.amount) ∙ ne_eqb _ _ c.if-amount-eq0.false in
+    rw not_zero (to_z-of_z (record { sfits = c.moved-new.type-inv }) ∙ (rw (to_z-of_z c.ranges.amount) at c.moved-new.ensures))
+
+-- in range
+low : (c : Then-new-le-MOST) → lt_z (new c.UP-After-moved-new) (pos 0) ≡ false
+low c = at_most (pos 0) (new c.UP-After-moved-new) true (rw (new_is c.UP-After-moved-new) at c.if-new-ge0.true)
+
+high : (c : Then-new-le-MOST) → lt_z (pos 32767) (new c.UP-After-moved-new) ≡ false
+high c = at_most (new c.UP-After-moved-new) (pos 32767) true (rw (new_is c.UP-After-moved-new) at c.if-new-le-MOST.true)
+
+-- neither in range nor below 0
+above : (c : Else-new-lt0) → lt_z (pos 32767) (new c.UP-After-moved-new) ≡ true
+above c =
+    let e = new_is c.UP-After-moved-new in
+    let n = new c.UP-After-moved-new in
+    ⊎_elim
+    (λ w. at_most n (pos 32767) false (rw e at w.1.left))
+    (λ w. clash (sym (rw e at c.if-new-lt0.false) ∙ at_most (pos 0) n false (rw e at w.left)))
+    c.else-new-ge0.branch
+
+pub returns-then-value-eq0 : goal.returns-then-value-eq0
+returns-then-value-eq0 c =
+    let a = c.args in
+    rw (next_zero a.value a.amount (zero (goal.at.returns-then-value-eq0 c).Then-amount-eq0), eq-eqb a.value 0 c.if-value-eq0.true, c.if-value-eq0.true)
+
+pub returns-then-amount-eq0 : goal.returns-then-amount-eq0
+returns-then-amount-eq0 c =
+    let a = c.args in
+    rw (next_zero a.value a.amount (zero (goal.at.returns-then-amount-eq0 c).Then-amount-eq0), ne_eqb a.value 0 c.if-value-eq0.false)
+
+pub overflow_cast-result : goal.overflow_cast-result
+overflow_cast-result c = rw (new_is (goal.at.overflow_cast-result c).After-moved-new) (unsigned (new (goal.at.overflow_cast-result c).After-moved-new) (low (goal.at.overflow_cast-result c).Then-new-le-MOST) (high (goal.at.overflow_cast-result c).Then-new-le-MOST))
+
+pub overflow_cast-result-else-amount-gt0 : goal.overflow_cast-result-else-amount-gt0
+overflow_cast-result-else-amount-gt0 c =
+    let e = new_is (goal.at.overflow_cast-result-else-amount-gt0 c).After-moved-new in
+    rw e (lowered_fits _ _ c.ranges.value (rw e at c.if-new-lt0.false) (rw (to_z-of_z c.ranges.amount) at c.if-amount-gt0.false))
+
+pub returns-then-new-le-MOST : goal.returns-then-new-le-MOST
+returns-then-new-le-MOST c =
+    let a = c.args in
+    rw (new_is (goal.at.returns-then-new-le-MOST c).After-moved-new, next_is a.value a.amount, low (goal.at.returns-then-new-le-MOST c).Then-new-le-MOST, high (goal.at.returns-then-new-le-MOST c).Then-new-le-MOST)
+
+pub returns-then-new-lt0 : goal.returns-then-new-lt0
+returns-then-new-lt0 c =
+    let a = c.args in
+    rw (next_is a.value a.amount, rw (new_is (goal.at.returns-then-new-lt0 c).After-moved-new) at c.if-new-lt0.true)
+
+pub returns-then-amount-gt0 : goal.returns-then-amount-gt0
+returns-then-amount-gt0 c = rw (next_is c.args.value c.args.amount, rw (new_is (goal.at.returns-then-amount-gt0 c).After-moved-new) at c.if-new-lt0.false, above (goal.at.returns-then-amount-gt0 c).Else-new-lt0, rw (to_z-of_z c.ranges.amount) at c.if-amount-gt0.true)
+
+pub returns-else-amount-gt0 : goal.returns-else-amount-gt0
+returns-else-amount-gt0 c = rw (new_is (goal.at.returns-else-amount-gt0 c).After-moved-new, next_is c.args.value c.args.amount, rw (new_is (goal.at.returns-else-amount-gt0 c).After-moved-new) at c.if-new-lt0.false, above (goal.at.returns-else-amount-gt0 c).Else-new-lt0, rw (to_z-of_z c.ranges.amount) at c.if-amount-gt0.false)

@@ -1,0 +1,16 @@
+use mathlib.Core.Path.{◌≡◌, sym, ◌∙◌}
+use Prim.Native.Nat.{◌-◌, ◌≤◌}
+use native.Mathlib.Omega.{arith}
+use borrow.Author.Tests.{not-true, not-false}
+use Rattle.model.specs.Checks.{all_in_range}
+use Rattle.model.specs.Values.{values_in}
+use Rattle.judging.proofs.Settings.{values_rest, values_all, range_on, range_out, range_end}
+use borrow.Author.Rules.{rules}
+use Rattle.judging.proofs.setting.all_in_range.Given as goal
+
+-- The invariant: the values from here on are in range if and only if all are.
+abbrev pub invariant-loop-i : goal.invariant-loop-i
+invariant-loop-i l = (l.i ≤ l.values) × (all_in_range (values_rest l.bytes l.i) ≡ all_in_range (values_in l.bytes))
+
+abbrev pub decreases-loop-i : goal.decreases-loop-i
+decreases-loop-i l = l.values - l.i

@@ -1,0 +1,12 @@
+use mathlib.Core.Path.{sym}
+use native.Mathlib.Omega.{arith}
+use lib.Seq.{length-take-le, take_all}
+use borrow.Author.Rules.{rules}
+use Rattle.runfile.proofs.fields.first.Goals as goal
+
+-- `runfile::fields::first` meets its contract.
+pub slice_bounds-result-end : goal.slice_bounds-result-end
+slice_bounds-result-end c = sym (length-take-le c.args.count c.args.bytes.now c.if-count-bytes.true)
+
+pub returns-else-count-bytes : goal.returns-else-count-bytes
+returns-else-count-bytes c = sym (take_all c.args.count c.args.bytes.now (omega arith))

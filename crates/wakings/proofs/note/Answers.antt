@@ -1,0 +1,26 @@
+use native.Mathlib.Omega.{arith}
+use lib.ListN.{length-set}
+use borrow.Author.Rules.{rules}
+use lib.IntN.{pos}
+use Rattle.model.specs.Waking.{waking}
+use Rattle.wakings.specs.Wakings.{place_of}
+use Rattle.wakings.proofs.ListLaws.{stored, not_stored}
+use Rattle.wakings.proofs.note.Goals as goal
+
+pub bounds-all-at-then-count-lt-PROCESSES : goal.bounds-all-at-then-count-lt-PROCESSES
+bounds-all-at-then-count-lt-PROCESSES c = simp length-set (omega arith)
+
+pub bounds-all-at-then-count-lt-PROCESSES-2 : goal.bounds-all-at-then-count-lt-PROCESSES-2
+bounds-all-at-then-count-lt-PROCESSES-2 c = simp length-set (omega arith)
+
+pub bounds-all-at-then-count-lt-PROCESSES-3 : goal.bounds-all-at-then-count-lt-PROCESSES-3
+bounds-all-at-then-count-lt-PROCESSES-3 c = simp length-set (omega arith)
+
+pub returns-then-count-lt-PROCESSES : goal.returns-then-count-lt-PROCESSES
+returns-then-count-lt-PROCESSES c = let a = c.args in
+    rw (c.position_byte.ensures, c.decided_byte.ensures)
+    (stored a.list.now a.count a.process a.code _ _ (search rules) (search rules))
+
+pub returns-else-count-lt-PROCESSES : goal.returns-else-count-lt-PROCESSES
+returns-else-count-lt-PROCESSES c = let a = c.args in
+    not_stored a.list.now a.count (place_of (waking a.process (pos a.code) a.position)) (search rules)
