@@ -5,7 +5,7 @@ use borrow.Author.Tests.{eqb-false}
 use lib.Bits.{bit_and, bit_or}
 use lib.Pow.{pow-lt}
 use lib.Seq.{sets, set_comm, set-get_or, set_out}
-use Rattle.model.specs.State.{row, fresh_state}
+use Rattle.model.specs.State.{fresh_state}
 use Rattle.model.specs.Operation.{has_bit}
 use Rattle.model.proofs.Bits.{bit_zero, bit_or_same, bit_or_other, has_bit_bit}
 use Rattle.host.specs.Parts.{Part, place, host_bytes, number_at, bytes_of, numbers_from, Row, row_in, with, put}

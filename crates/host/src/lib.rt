@@ -4,6 +4,7 @@
 // by subject. Each is total. What lies beyond a part reads as 0 and is not written. A writer promises the whole row after
 // it, `row_in`, by an equation; proofs/Whole.antt has that two rows which say the same are the same bytes.
 #![tactic(auto)]
+
 mod adjustments;
 mod bytes;
 mod callers;

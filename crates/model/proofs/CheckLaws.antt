@@ -18,7 +18,7 @@ use Rattle.model.specs.State.{State, Sleeper}
 use Rattle.model.specs.Operation.{operation_at, operations_from, operations_of}
 use Rattle.model.specs.Checks.{check, or_else, live, slot_of, names_set, no_process, number_too_high, free_from, free_slot, check_caller, check_access, check_create, check_operate, check_query, in_range, check_set_value, all_in_range, check_set_all, check_remove, check_process, check_clock}
 use Rattle.model.specs.Permission.{reading, altering}
-use Rattle.model.specs.Values.{value_at, values_from, values_in, held}
+use Rattle.model.specs.Values.{values_from, values_in, held}
 use Rattle.model.specs.Events.{call}
 use Rattle.model.specs.Runs.{All, none, also}
 use Rattle.model.proofs.Lists.{first}

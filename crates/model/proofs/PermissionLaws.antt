@@ -1,14 +1,14 @@
 -- The truth table of permission (specs/Permission.antt).
-use Prim.Native.Nat.{ℕ, ◌/◌, ◌%◌}
+use Prim.Native.Nat.{ℕ}
 use mathlib.Core.Path.{◌≡◌, refl}
 use mathlib.Core.Logic.{◌≢◌}
-use mathlib.Core.Bool.{Bool, true, false}
+use mathlib.Core.Bool.{true, false}
 use lib.Dec.{eqb}
 use borrow.Author.Tests.{eq-eqb, ne_eqb}
 use Rattle.model.specs.declared.Set.{Set}
 use Rattle.model.specs.declared.Caller.{Caller}
 use Rattle.model.specs.Operation.{has_bit}
-use Rattle.model.specs.Permission.{reading, altering, owner_bits, group_bits, other_bits, class_bits, permits, Setting, settings, Granted, ByClass}
+use Rattle.model.specs.Permission.{reading, altering, class_bits, permits, Setting, settings, Granted, ByClass}
 use Rattle.model.specs.Runs.{All, none, also}
 
 module _ (c : Caller) (k : Set) where

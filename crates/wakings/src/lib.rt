@@ -5,6 +5,7 @@
 // notes whom it wakes, one place behind the other, and tells how many they are; proofs/ListLaws.antt has that the list
 // then is that of its wakings.
 #![tactic(auto)]
+
 ghost use Rattle.std.specs.Prelude.{◌≡◌, [], get_or, set, pos};
 ghost use Rattle.model.specs.Waking.{waking};
 ghost use Rattle.wakings.specs.Wakings.{places_in, place_of, waking_in, no_waking, list_of, decided_byte, position_byte};

@@ -1,8 +1,8 @@
-use Rattle.std.proofs.Common.{◌-◌, pos, sym, refl, arith, to_z-of_z, w16, rules}
+use Rattle.std.proofs.Common.{pos, sym, refl, arith, to_z-of_z, w16}
 use borrow.Author.Rules.{sfits_of}
 use Rattle.model.specs.Limits.{semaphores}
 use Rattle.host.specs.Rows.{undo_at}
-use Rattle.host.proofs.RowLaws.{Reading, read_none, read_more, read_all, from_beyond}
+use Rattle.host.proofs.RowLaws.{read_none, read_more, read_all, from_beyond}
 use Rattle.host.proofs.SleeperLaws.{undo_room}
 use Rattle.host.proofs.adjustments.adjustments_of.Goals as goal
 

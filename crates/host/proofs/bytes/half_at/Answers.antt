@@ -1,4 +1,4 @@
-use Rattle.std.proofs.Common.{sym, ◌∙◌, rules}
+use Rattle.std.proofs.Common.{sym, ◌∙◌}
 use Rattle.host.proofs.Numbers.{two_bytes}
 use Rattle.host.proofs.bytes.half_at.Goals as goal
 

@@ -1,4 +1,4 @@
-use Rattle.std.proofs.Common.{◌≡◌, ℕ, ◌/◌, ◌%◌, set, ap₂, add-one, arith, rules}
+use Rattle.std.proofs.Common.{◌≡◌, ℕ, ◌/◌, ◌%◌, set, ap₂, add-one, arith}
 use Rattle.host.specs.Parts.{bytes_of}
 use Rattle.host.proofs.bytes.put_half.Goals as goal
 

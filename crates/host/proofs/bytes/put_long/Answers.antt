@@ -1,4 +1,4 @@
-use Rattle.std.proofs.Common.{ℕ, ◌+◌, ◌/◌, List, ap, ◌∙◌, rules}
+use Rattle.std.proofs.Common.{ℕ, ◌+◌, ◌/◌, List, ap, ◌∙◌}
 use lib.Seq.{sets}
 use Rattle.host.specs.Parts.{bytes_of}
 use Rattle.host.proofs.Numbers.{sets_joined}

@@ -1,4 +1,4 @@
-use Rattle.std.proofs.Common.{arith, rules}
+use Rattle.std.proofs.Common.{arith}
 use Rattle.host.proofs.Numbers.{number_joined}
 use Rattle.host.proofs.bytes.word_at.Goals as goal
 

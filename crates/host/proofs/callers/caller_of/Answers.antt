@@ -1,6 +1,5 @@
 use Rattle.host.specs.Parts.{users, groups}
 use Rattle.host.proofs.PartLaws.{read_part, read_beyond}
-use Rattle.std.proofs.Common.{rules}
 use Rattle.host.proofs.callers.caller_of.Goals as goal
 
 pub returns-then-i-lt-PROCESSES : goal.returns-then-i-lt-PROCESSES

@@ -1,4 +1,4 @@
-use Rattle.std.proofs.Common.{sym, ◌∙◌, lit<, rules}
+use Rattle.std.proofs.Common.{sym, ◌∙◌, lit<}
 use Rattle.host.specs.Parts.{clock}
 use Rattle.host.proofs.PartLaws.{read_part}
 use Rattle.host.proofs.clock.time_of.Goals as goal

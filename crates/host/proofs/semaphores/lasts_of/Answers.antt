@@ -1,9 +1,9 @@
-use Rattle.std.proofs.Common.{◌-◌, sym, refl, arith, rules}
+use Rattle.std.proofs.Common.{sym, refl, arith}
 use Rattle.model.specs.Limits.{semaphores}
 use Rattle.model.specs.State.{row}
 use Rattle.host.specs.Parts.{lasts, row_in}
 use Rattle.host.proofs.PartLaws.{length_part}
-use Rattle.host.proofs.RowLaws.{Reading, read_none, read_more, read_all, from_beyond}
+use Rattle.host.proofs.RowLaws.{read_none, read_more, read_all, from_beyond}
 use Rattle.host.proofs.semaphores.lasts_of.Goals as goal
 
 pub loop-j-init : goal.loop-j-init

@@ -1,9 +1,8 @@
-use Rattle.std.proofs.Common.{◌-◌, sym, refl, arith, rules}
+use Rattle.std.proofs.Common.{◌-◌}
 use Rattle.model.specs.Limits.{semaphores}
 use Rattle.model.specs.State.{row}
 use Rattle.host.specs.Parts.{lasts, row_in}
-use Rattle.host.proofs.PartLaws.{length_part}
-use Rattle.host.proofs.RowLaws.{Reading, read_none, read_more, read_all, from_beyond}
+use Rattle.host.proofs.RowLaws.{Reading}
 use Rattle.host.proofs.semaphores.lasts_of.Given as goal
 
 abbrev pub invariant-loop-j : goal.invariant-loop-j

@@ -1,9 +1,10 @@
-use Rattle.std.proofs.Common.{◌-◌, true, refl, ⊎_elim, arith, rules}
+use Rattle.std.proofs.Common.{true, refl, arith, rules}
 use Rattle.model.specs.Limits.{semaphores}
 use Rattle.model.specs.State.{row}
 use Rattle.host.specs.Parts.{lasts}
-use Rattle.host.proofs.SemaphoreLaws.{Masking, mask_none, mask_more, mask_kept, mask_all, mask_beyond, bit_on, bit_off}
+use Rattle.host.proofs.SemaphoreLaws.{mask_none, mask_more, mask_kept, mask_all, mask_beyond, bit_on, bit_off}
 use Rattle.host.proofs.semaphores.put_lasts.Goals as goal
+use Rattle.host.proofs.semaphores.put_lasts.Goals.{then-on-ne0, else-on-ne0}
 
 pub loop-j-init : goal.loop-j-init
 loop-j-init c = mask_none lasts semaphores _ _ _ _ (search rules)
@@ -14,10 +15,10 @@ loop-j-preserved c =
     let a = c.args in
     let n = c.loop-j-test.true in
     let next = mask_more lasts semaphores (row a.slot) a.mask a.process a.host.now refl (omega arith) (omega arith) l.all l.j in
-    ⊎_elim
-    (λ w. rw w.1 (next a.process true l.invariant n (bit_on a.mask l.j n w.0.taken) refl))
-    (λ w. rw w.1 (mask_kept lasts semaphores (row a.slot) a.mask a.process a.host.now refl (omega arith) (omega arith) l.all l.j l.invariant n (bit_off a.mask l.j n w.0.left)))
-    c.if-on-ne0.branch
+    elim c.if-on-ne0.branch [
+      | then-on-ne0 w ↦ rw w.all-is (next a.process true l.invariant n (bit_on a.mask l.j n w.if-on-ne0.true) refl)
+      | else-on-ne0 w ↦ rw w.all-is (mask_kept lasts semaphores (row a.slot) a.mask a.process a.host.now refl (omega arith) (omega arith) l.all l.j l.invariant n (bit_off a.mask l.j n w.if-on-ne0.false))
+    ]
 
 pub returns-after-loop-j : goal.returns-after-loop-j
 returns-after-loop-j c =

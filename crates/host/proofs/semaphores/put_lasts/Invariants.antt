@@ -1,8 +1,8 @@
-use Rattle.std.proofs.Common.{◌-◌, true, refl, ⊎_elim, arith, rules}
+use Rattle.std.proofs.Common.{◌-◌}
 use Rattle.model.specs.Limits.{semaphores}
 use Rattle.model.specs.State.{row}
 use Rattle.host.specs.Parts.{lasts}
-use Rattle.host.proofs.SemaphoreLaws.{Masking, mask_none, mask_more, mask_kept, mask_all, mask_beyond, bit_on, bit_off}
+use Rattle.host.proofs.SemaphoreLaws.{Masking}
 use Rattle.host.proofs.semaphores.put_lasts.Given as goal
 
 abbrev pub invariant-loop-j : goal.invariant-loop-j

@@ -1,9 +1,8 @@
-use Rattle.std.proofs.Common.{◌≡◌, ◌-◌, length, get_or, refl, ap, ◌∙◌, arith, w16, Fits, rules}
+use Rattle.std.proofs.Common.{◌-◌}
 use Rattle.model.specs.Limits.{semaphores}
 use Rattle.model.specs.State.{row}
-use Rattle.host.specs.Parts.{values, row_in}
-use Rattle.host.proofs.SleeperLaws.{Writing, write_none, write_more, write_all, write_away}
-use Rattle.host.proofs.SemaphoreLaws.{write_further}
+use Rattle.host.specs.Parts.{values}
+use Rattle.host.proofs.SleeperLaws.{Writing}
 use Rattle.host.proofs.semaphores.put_values.Given as goal
 
 abbrev pub invariant-loop-j : goal.invariant-loop-j

@@ -1,4 +1,4 @@
-use Rattle.std.proofs.Common.{sym, ◌∙◌, rules}
+use Rattle.std.proofs.Common.{sym, ◌∙◌}
 use Rattle.host.specs.Parts.{values}
 use Rattle.host.proofs.PartLaws.{read_part, read_beyond}
 use Rattle.host.proofs.semaphores.value_at.Goals as goal

@@ -1,9 +1,9 @@
-use Rattle.std.proofs.Common.{◌-◌, sym, refl, ◌∙◌, arith, rules}
+use Rattle.std.proofs.Common.{sym, refl, ◌∙◌, arith}
 use Rattle.model.specs.Limits.{semaphores}
 use Rattle.model.specs.State.{row}
 use Rattle.host.specs.Parts.{values, row_in}
 use Rattle.host.proofs.PartLaws.{length_part}
-use Rattle.host.proofs.RowLaws.{Reading, read_none, read_more, read_all, from_beyond}
+use Rattle.host.proofs.RowLaws.{read_none, read_more, read_all, from_beyond}
 use Rattle.host.proofs.SemaphoreLaws.{read_further}
 use Rattle.host.proofs.semaphores.values_of.Goals as goal
 

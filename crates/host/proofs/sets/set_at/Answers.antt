@@ -1,4 +1,4 @@
-use Rattle.std.proofs.Common.{refl, rules}
+use Rattle.std.proofs.Common.{refl}
 use Rattle.host.specs.Parts.{generations, counts, owners, owning_groups, modes}
 use Rattle.host.proofs.PartLaws.{read_part, read_beyond}
 use Rattle.host.proofs.SleeperLaws.{byte_read}

@@ -1,4 +1,4 @@
-use Rattle.std.proofs.Common.{sym, refl, arith, lit<, rules}
+use Rattle.std.proofs.Common.{sym, refl, arith, lit<}
 use Rattle.host.specs.Parts.{asleep, place}
 use Rattle.host.proofs.SleeperLaws.{byte_read}
 use Rattle.host.proofs.sleepers.asleep_of.Goals as goal

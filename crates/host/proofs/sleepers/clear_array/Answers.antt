@@ -1,9 +1,9 @@
-use Rattle.std.proofs.Common.{ℕ, ◌+◌, ◌-◌, ◌*◌, min, replicate, refl, arith, lit<, rules}
+use Rattle.std.proofs.Common.{ℕ, ◌+◌, ◌*◌, min, replicate, refl, arith, lit<, rules}
 use native.Mathlib.Nat.{min-le_left}
 use lib.ListN.{length-replicate}
 use Rattle.model.specs.Limits.{array_bytes}
 use Rattle.host.specs.Parts.{arrays, place}
-use Rattle.host.proofs.SleeperLaws.{Writing, write_none, write_byte, write_all, write_away, zeros_at}
+use Rattle.host.proofs.SleeperLaws.{write_none, write_byte, write_all, write_away, zeros_at}
 use Rattle.host.proofs.sleepers.clear_array.Goals as goal
 
 pub loop-j-init : goal.loop-j-init

@@ -8,4 +8,4 @@ wrapped r zero h e = omega arith
 wrapped r (suc p) h e = omega arith
 
 pub returns : goal.returns
-returns c = wrapped c.wrapping_sub_u8.result c.args.process (search rules) c.wrapping_sub_u8.ensures
+returns c = wrapped c.wrapping_sub_u8.result c.args.process (search rules) c.wrapping_sub_u8.ensures.value

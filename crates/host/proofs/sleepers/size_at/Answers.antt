@@ -1,4 +1,4 @@
-use Rattle.std.proofs.Common.{◌+◌, sym, refl, arith, rules}
+use Rattle.std.proofs.Common.{◌+◌, sym, refl, arith}
 use Rattle.host.specs.Parts.{sizes, place}
 use Rattle.host.proofs.PartLaws.{read_beyond}
 use Rattle.host.proofs.SleeperLaws.{byte_read}

@@ -1,4 +1,4 @@
-use Rattle.std.proofs.Common.{sym, refl, rules}
+use Rattle.std.proofs.Common.{sym, refl}
 use Rattle.host.specs.Parts.{sleeps_at}
 use Rattle.host.proofs.PartLaws.{read_beyond}
 use Rattle.host.proofs.SleeperLaws.{byte_read}

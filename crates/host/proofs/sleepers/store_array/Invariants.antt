@@ -1,7 +1,7 @@
-use Rattle.std.proofs.Common.{◌+◌, ◌-◌, ◌*◌, take, sym, refl, arith, length-take, get_or-take, rules}
+use Rattle.std.proofs.Common.{◌-◌, ◌*◌, take}
 use Rattle.model.specs.Limits.{array_bytes}
-use Rattle.host.specs.Parts.{arrays, place}
-use Rattle.host.proofs.SleeperLaws.{Writing, write_none, write_byte, write_all, write_away}
+use Rattle.host.specs.Parts.{arrays}
+use Rattle.host.proofs.SleeperLaws.{Writing}
 use Rattle.host.proofs.sleepers.store_array.Given as goal
 
 abbrev pub invariant-loop-j : goal.invariant-loop-j

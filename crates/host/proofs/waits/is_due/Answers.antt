@@ -1,4 +1,4 @@
-use Rattle.std.proofs.Common.{sym, rules}
+use Rattle.std.proofs.Common.{sym}
 use Rattle.host.proofs.WaitLaws.{never_over, not_begun, over_difference}
 use Rattle.host.proofs.waits.is_due.Goals as goal
 

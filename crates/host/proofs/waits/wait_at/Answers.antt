@@ -1,4 +1,4 @@
-use Rattle.std.proofs.Common.{sym, ◌∙◌, rules}
+use Rattle.std.proofs.Common.{sym, ◌∙◌}
 use Rattle.host.specs.Parts.{waits}
 use Rattle.host.proofs.PartLaws.{read_part, read_beyond}
 use Rattle.host.proofs.waits.wait_at.Goals as goal

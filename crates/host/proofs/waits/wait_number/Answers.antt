@@ -1,11 +1,10 @@
 use Rattle.host.specs.Waits.{wait_number}
-use Rattle.std.proofs.Common.{rules}
 use Rattle.host.proofs.waits.wait_number.Goals as goal
 
 pub returns-in-Endless : goal.returns-in-Endless
 unfolding wait_number
-returns-in-Endless c = rw c.enum_told-1.given.1
+returns-in-Endless c = rw c.in-Endless.is
 
 pub returns-in-Milliseconds : goal.returns-in-Milliseconds
 unfolding wait_number
-returns-in-Milliseconds c = rw c.wait-1.given.1
+returns-in-Milliseconds c = rw c.in-Milliseconds.is
