@@ -4,6 +4,7 @@
 // one's bodies are then read in place, from the end of the table on: `event_at` and `handed_at` read one, and its
 // `size_at` leads to the next. proofs/Walk.antt has what such a walk goes by. What is public here asks nothing of its caller.
 #![tactic(auto)]
+
 mod bodies;
 mod fields;
 mod table;

@@ -1,5 +1,4 @@
 use borrow.Author.Tests.{eq-eqb, ne_eqb}
-use borrow.Author.Rules.{rules}
 use Rattle.runfile.specs.Body.{body_code}
 use Rattle.runfile.proofs.bodies.body_code.Goals as goal
 

@@ -1,5 +1,4 @@
 use lib.ListN.{drop_of_length-le}
-use borrow.Author.Rules.{rules}
 use Rattle.runfile.specs.Body.{event_in}
 use Rattle.runfile.proofs.Bytes.{to_end}
 use Rattle.runfile.proofs.bodies.event_at.Goals as goal

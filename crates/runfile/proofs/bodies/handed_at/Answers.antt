@@ -1,5 +1,4 @@
 use lib.ListN.{drop_of_length-le}
-use borrow.Author.Rules.{rules}
 use Rattle.runfile.specs.Body.{fixed_of, each_of, handed_in}
 use Rattle.runfile.proofs.Bytes.{rest, to_end}
 use Rattle.runfile.proofs.Sizes.{hands, other_hands}

@@ -3,7 +3,6 @@ use mathlib.Core.Bool.{Bool, true, false, cond}
 use native.Mathlib.Nat.{mul-le-mul_right}
 use native.Mathlib.Omega.{arith}
 use lib.Dec.{eqb}
-use borrow.Author.Rules.{rules}
 use Rattle.model.specs.Limits.{operation_bytes}
 use Rattle.runfile.specs.Body.{operate_kind}
 use Rattle.runfile.proofs.bodies.other_size.Goals as goal
@@ -24,7 +23,7 @@ pub overflow_mul-result : goal.overflow_mul-result
 overflow_mul-result c = rw c.operate_each.ensures (record { fits = omega (arith, product c.args.kind c.args.number) })
 
 pub overflow_add-result : goal.overflow_add-result
-overflow_add-result c = rw c.operate_each.ensures (record { fits = omega (arith, product c.args.kind c.args.number, c.fixed.type-inv) })
+overflow_add-result c = rw c.operate_each.ensures (record { fits = omega (arith, product c.args.kind c.args.number, c.fixed.type_inv) })
 
 pub returns : goal.returns
 returns c = rw (c.operate_each.ensures, c.fixed.ensures)

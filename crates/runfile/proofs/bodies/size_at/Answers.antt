@@ -1,5 +1,5 @@
 use lib.ListN.{drop_of_length-le}
-use borrow.Author.Rules.{rules}
+use native.Mathlib.Omega.{arith}
 use Rattle.runfile.specs.Body.{fixed_of, each_of, size_in}
 use Rattle.runfile.proofs.Bytes.{rest, to_end}
 use Rattle.runfile.proofs.Sizes.{size_is, other_size}
@@ -14,15 +14,15 @@ pub returns-in-8 : goal.returns-in-8
 unfolding fixed_of each_of
 returns-in-8 c =
     let a = c.args in
-    rw (← to_end a.file.now a.at, ← size_is (rest a.file.now a.at) c.in-8.keys1, c.counted.ensures)
+    rw (← to_end a.file.now a.at, ← size_is (rest a.file.now a.at) c.in-8.is, c.counted.ensures)
 
 pub returns-in-10 : goal.returns-in-10
 unfolding fixed_of each_of
 returns-in-10 c =
     let a = c.args in
-    rw (← to_end a.file.now a.at, ← size_is (rest a.file.now a.at) c.in-10.keys2, c.counted-in-10.ensures)
+    rw (← to_end a.file.now a.at, ← size_is (rest a.file.now a.at) c.in-10.is, c.counted-in-10.ensures)
 
 pub returns-in_default : goal.returns-in_default
 returns-in_default c =
     let a = c.args in
-    rw (← to_end a.file.now a.at, ← other_size (rest a.file.now a.at) c.in_default.rest.1 c.in_default.rest.0.1, c.other_size.ensures, c.number.ensures)
+    rw (← to_end a.file.now a.at, ← other_size (rest a.file.now a.at) (omega arith) (omega arith), c.other_size.ensures, c.number.ensures)

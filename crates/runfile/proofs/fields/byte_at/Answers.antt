@@ -1,5 +1,4 @@
 use mathlib.Core.Path.{sym}
-use borrow.Author.Rules.{rules}
 use Rattle.runfile.proofs.Bytes.{past}
 use Rattle.runfile.proofs.fields.byte_at.Goals as goal
 

@@ -1,15 +1,8 @@
 use Prim.Native.Nat.{◌≤◌, ◌+◌, ◌-◌}
-use mathlib.Core.Path.{◌≡◌, ap, sym, ◌∙◌}
-use mathlib.Core.Bool.{cond}
-use mathlib.Core.Logic.{⊎_elim}
-use native.Mathlib.Omega.{arith}
-use lib.Dec.{eqb}
+use mathlib.Core.Path.{◌≡◌}
 use lib.ListN.{length}
-use borrow.Author.Rules.{rules}
-use borrow.Author.Tests.{eq-eqb, ne_eqb}
-use Rattle.runfile.specs.Body.{body_code}
 use Rattle.runfile.specs.File.{bodies_of, bad_code}
-use Rattle.runfile.proofs.Loops.{table_from, first_of, first_stays, code_from, code_whole, code_next, code_stop, code_end}
+use Rattle.runfile.proofs.Loops.{table_from, code_from}
 use Rattle.runfile.proofs.table.bodies_code.Given as goal
 
 -- `runfile::table::bodies_code` meets its contract. The loop's invariant: the code of all bodies is that of those which are

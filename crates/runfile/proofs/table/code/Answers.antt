@@ -1,6 +1,5 @@
 use mathlib.Core.Path.{◌≡◌, sym}
 use borrow.Author.Tests.{lt-ltb, le-ltb}
-use borrow.Author.Rules.{rules}
 use Rattle.runfile.specs.Table.{count_in}
 use Rattle.runfile.specs.File.{file_of, bad_code}
 use Rattle.runfile.proofs.table.code.Goals as goal

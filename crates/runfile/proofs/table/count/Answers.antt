@@ -1,5 +1,4 @@
 use borrow.Author.Tests.{lt-ltb, le-ltb}
-use borrow.Author.Rules.{rules}
 use Rattle.runfile.specs.Table.{count_in}
 use Rattle.runfile.proofs.table.count.Goals as goal
 
