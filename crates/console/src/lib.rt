@@ -8,6 +8,9 @@ use host::{HOST_BYTES, fresh, no_adjustments};
 use model::{ALL_ADJUSTMENTS, Engine};
 use replaying::{Progress, piece, start};
 
+// The file descriptor of standard output.
+const STANDARD_OUTPUT: i32 = 1;
+
 // Writes the text of a file, in large pieces, and answers the progress behind all of its events. Whatever the host held, it
 // begins as a fresh one and is left as the last event left it. Behind a write that fails or takes nothing no other is made,
 // so that what was written is a beginning of the text, with no hole in it; the events run on to the last all the same.
@@ -23,7 +26,7 @@ pub fn print(
     *adjustments = no_adjustments();
     let mut out = io::large_buffer();
     let mut progress = start(file, &mut out);
-    let mut whole = io::write_all(libc::STDOUT_FILENO, &out[..progress.written]);
+    let mut whole = io::write_all(STANDARD_OUTPUT, &out[..progress.written]);
     while 0 < progress.left {
         progress = piece(
             &mut *host,
@@ -34,7 +37,7 @@ pub fn print(
             &mut out,
         );
         if whole {
-            whole = io::write_all(libc::STDOUT_FILENO, &out[..progress.written]);
+            whole = io::write_all(STANDARD_OUTPUT, &out[..progress.written]);
         }
     }
     progress

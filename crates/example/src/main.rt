@@ -3,9 +3,11 @@
 // Two predictors share semaphore 0 of a set. The first wants it while it is taken and sleeps; the second gives it back, and
 // the first is woken. That each check below holds is proved from the events' promises alone.
 #![tactic(auto)]
-use libc::STDOUT_FILENO;
 use model::{Engine, MODE_MAX, WAKING_BYTES, Wait};
 use service::{create, operate};
+
+// The file descriptor of standard output.
+const STANDARD_OUTPUT: i32 = 1;
 
 fn main() {
     let take = [0u8, 0, 255, 255, 0, 0];
@@ -37,6 +39,6 @@ fn main() {
     );
     check::expect(given.woken == 1);
     check::expect(given.looks == 1);
-    io::print_decimal(STDOUT_FILENO, given.woken as u64);
-    io::write_all(STDOUT_FILENO, b" woken\n");
+    io::print_decimal(STANDARD_OUTPUT, given.woken as u64);
+    io::write_all(STANDARD_OUTPUT, b" woken\n");
 }

@@ -9,6 +9,9 @@ use host::HOST_BYTES;
 use model::{ALL_ADJUSTMENTS, Engine};
 use replaying::Progress;
 
+// The file descriptor of standard input.
+const STANDARD_INPUT: i32 = 0;
+
 // Replays a file with the plain engine: what the program is named for.
 fn plain(
     host: &mut [u8; HOST_BYTES],
@@ -23,7 +26,7 @@ fn plain(
 // At most one byte more than the longest file is read: by it a longer one is noticed.
 fn main() {
     let mut space = io::large_buffer();
-    let read = io::read_full(libc::STDIN_FILENO, &mut space);
+    let read = io::read_full(STANDARD_INPUT, &mut space);
     let mut host = host::fresh();
     let mut adjustments = host::no_adjustments();
     plain(&mut host, &mut adjustments, &space[..read]);
