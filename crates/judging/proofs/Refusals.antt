@@ -3,7 +3,6 @@ use mathlib.Core.Path.{◌≡◌, refl, sym}
 use mathlib.Core.Bool.{Bool, true, false, cond, not, ◌&&◌}
 use mathlib.Core.List.{List}
 use Prim.Native.Nat.{ℕ, ◌+◌, ◌*◌, ◌/◌, ◌<◌}
-use borrow.Author.Tests.{not-false}
 use lib.Dec.{leb}
 use lib.ListN.{length}
 use Rattle.model.specs.declared.Operation.{Operation}
@@ -21,13 +20,10 @@ joined true b c = refl
 joined false b c = refl
 
 -- one that may both may either
-pub both_is : (reads alters zero : Bool) → not (reads && alters) ≡ false → true ≡ cond zero reads alters
-both_is reads alters zero e = either reads alters zero (not-false _ e)
-  where
-    either : (a b z : Bool) → a && b ≡ true → true ≡ cond z a b
-    either true b true h = refl
-    either true b false h = sym h
-    either false b z h = clash h
+pub both_is : (reads alters zero : Bool) → reads && alters ≡ true → true ≡ cond zero reads alters
+both_is true b true h = refl
+both_is true b false h = sym h
+both_is false b z h = clash h
 
 pub and_true : (b : Bool) → b && true ≡ b
 and_true true = refl

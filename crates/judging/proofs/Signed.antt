@@ -60,7 +60,7 @@ abbrev pub widened : ℤ → ℤ
 widened z = to_z w32 (of_z w32 (to_z w16 (of_z w16 z)))
 
 pub wide_is : {z : ℤ} → SFits w16 z → widened z ≡ z
-wide_is h = ap (λ (y : ℤ). to_z w32 (of_z w32 y)) (to_z-of_z h) ∙ to_z-of_z (sfits_widen tt h)
+wide_is {z} h = ap (λ (y : ℤ). to_z w32 (of_z w32 y)) (to_z-of_z {w = w16} {z = z} h) ∙ to_z-of_z {w = w32} {z = z} (sfits_widen tt h)
 
 -- and without
 pub value_is : {v : ℕ} → Fits w16 v → to_z w32 v ≡ pos v

@@ -3,9 +3,6 @@ use mathlib.Core.Path.{◌≡◌, refl, sym, ◌∙◌}
 use mathlib.Core.List.{[], ◌∷◌, List}
 use Prim.Native.Nat.{ℕ, ◌+◌, ◌*◌, ◌/◌, ◌<◌}
 use lib.ListN.{length}
-use types.Run.{OneOf, miss}
-use denote.Enum.Declared.{tag_of}
-use Rattle.model.specs.contracts.Outcome.{the_type}
 use Rattle.model.specs.declared.Operation.{Operation}
 use Rattle.model.specs.declared.Outcome.{Outcome}
 use Rattle.model.specs.declared.Outcome.TheVariants.{Done, Sleep, Again, Range}
@@ -28,13 +25,13 @@ module _ (bytes : List ℕ) (i : ℕ) (o : Operation) (c c' : Copies) (x : Outco
   unfolding or_else
   on e = sym (turned ∙ rw e)
 
-  -- the tag of the outcome is not that of `Done`
-  pub off : OneOf (1 ∷ 2 ∷ 3 ∷ []) (tag_of the_type x) → judged x i c' ≡ walk_from (rest bytes i) c i
+  -- the outcome is any but `Done`
+  pub off : (x ≡ Done → ⊥) → judged x i c' ≡ walk_from (rest bytes i) c i
   unfolding or_else
   off k = sym (turned ∙ ended x k (judged x i c') (walk_from (rest bytes (i + 1)) c' (i + 1)))
     where
-      ended : (y : Outcome) → OneOf (1 ∷ 2 ∷ 3 ∷ []) (tag_of the_type y) → (here further : Judged) → or_else y here further ≡ here
-      ended Done k here further = absurd (miss (1 ∷ 2 ∷ 3 ∷ []) 0 tt k)
+      ended : (y : Outcome) → (y ≡ Done → ⊥) → (here further : Judged) → or_else y here further ≡ here
+      ended Done k here further = absurd (k refl)
       ended Sleep k here further = refl
       ended Again k here further = refl
       ended Range k here further = refl

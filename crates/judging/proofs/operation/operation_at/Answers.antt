@@ -7,6 +7,6 @@ use Rattle.judging.proofs.operation.operation_at.Goals as goal
 
 pub returns : goal.returns
 returns c =
-    let e = to_z-of_z {w = w16} {z = c.Signed-of.result} (record { sfits = c.Signed-of.type-inv }) in
+    let e = to_z-of_z {w = w16} {z = c.signed_of-amount.result} (record { sfits = c.signed_of-amount.type_inv }) in
     let s = c.args in
-    read_as_lem s.bytes.now s.at _ c.half.result _ _ c.half-number.ensures c.half.ensures (e ∙ c.Signed-of.ensures) c.half-flags.ensures
+    read_as_lem s.bytes.now s.at _ c.half.result _ _ c.half-number.ensures c.half.ensures (e ∙ c.signed_of-amount.ensures) c.half-flags.ensures

@@ -15,10 +15,10 @@ pub overflow_mul-i : goal.overflow_mul-i
 overflow_mul-i c = omega arith
 
 pub returns-then-not-small_at : goal.returns-then-not-small_at
-returns-then-not-small_at c = range_out _ c.loop-i.i c.loop-i-test.true (sym c.Small-at.ensures ∙ not-true _ c.if-not-small_at.true) ∙ c.loop-i.invariant.1
+returns-then-not-small_at c = range_out _ c.loop-i.i c.loop-i-test.true (sym c.small_at.ensures ∙ c.if-not-small_at.true) ∙ c.loop-i.invariant.1
 
 pub loop-i-preserved : goal.loop-i-preserved
-loop-i-preserved c = (search rules, range_on _ c.loop-i.i c.loop-i-test.true (sym c.Small-at.ensures ∙ not-false _ c.if-not-small_at.false) ∙ c.loop-i.invariant.1)
+loop-i-preserved c = (search rules, range_on _ c.loop-i.i c.loop-i-test.true (sym c.small_at.ensures ∙ c.if-not-small_at.false) ∙ c.loop-i.invariant.1)
 
 pub returns : goal.returns
 returns c = range_end _ c.loop-i.i (omega arith) ∙ c.loop-i.invariant.1
