@@ -3,6 +3,7 @@
 // A line goes to a position of the buffer, and the position behind it is the answer. Where less than LINE_BYTES are left, a
 // line function changes nothing and answers the position it was given; proofs/Lengths.antt has that no line is longer.
 #![tactic(auto)]
+
 mod numbers;
 
 ghost use Rattle.std.specs.Prelude.{◌≡◌, [], ◌∷◌, ◌+◌, ◌*◌, ◌≤◌, leb, length, take, pos};

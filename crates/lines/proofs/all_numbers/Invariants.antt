@@ -1,17 +1,7 @@
-use Prim.Native.Nat.{◌+◌, ◌*◌, ◌-◌, ◌≤◌}
-use mathlib.Core.Path.{◌≡◌, sym, ap, ◌∙◌}
-use mathlib.Core.Logic.{⊎_elim}
-use native.Mathlib.Omega.{arith}
-use lib.ListN.{length, take}
-use lib.Seq.{take_all}
-use mir.Syntax.{w32}
-use borrow.Author.Rules.{rules}
-use Rattle.model.specs.Limits.{semaphores}
+use Prim.Native.Nat.{◌*◌, ◌-◌, ◌≤◌}
+use lib.ListN.{take}
 use Rattle.lines.specs.Text.{numbers_text}
 use Rattle.lines.specs.Buffer.{PutIn, number_bytes}
-use Rattle.lines.proofs.Digits.{digits_fit}
-use Rattle.lines.proofs.Writing.{nothing, also, room_left, at_most, put_length}
-use Rattle.lines.proofs.NumberRows.{numbers_more}
 use Rattle.lines.proofs.all_numbers.Given as goal
 
 -- `lines::all_numbers` meets its contract. The loop's invariant: the first `k` numbers are written.

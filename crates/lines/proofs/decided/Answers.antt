@@ -9,18 +9,17 @@ use Rattle.lines.proofs.decided.Goals as goal
 
 pub marked-requires : goal.marked-requires
 marked-requires c =
-    let n : Fits w8 c.position-1.given.0.0 = search rules in
+    let n : Fits w8 c.in-At.number = search rules in
     omega (arith, digits_fit w8 2 tt n)
 
 pub returns-in-Nowhere : goal.returns-in-Nowhere
 unfolding position_text
 returns-in-Nowhere c =
     let a = c.args in
-    rw c.enum_told-1.given.1 (at_most (nothing a.out.now a.at (search rules)) (omega arith))
+    rw c.in-Nowhere.is (at_most (nothing a.out.now a.at (search rules)) (omega arith))
 
 pub returns-in-At : goal.returns-in-At
 unfolding position_text
 returns-in-At c =
-    let k = c.position-1.given in
-    let n : Fits w8 k.0.0 = search rules in
-    rw k.1 (record { put = c.marked.ensures; short = omega (arith, digits_fit w8 2 tt n) })
+    let n : Fits w8 c.in-At.number = search rules in
+    rw c.in-At.is (record { put = c.marked.ensures; short = omega (arith, digits_fit w8 2 tt n) })

@@ -1,20 +1,10 @@
-use mathlib.Core.Path.{◌≡◌}
-use mathlib.Core.Bool.{true}
-use borrow.Author.Rules.{rules}
-use Rattle.lines.specs.Buffer.{has_room}
-use Rattle.lines.proofs.Writing.{room_yes, room_no, roomy, line, no_line_lem}
+use mathlib.Core.Path.{sym, ◌∙◌}
+use Rattle.lines.proofs.Writing.{line, no_line_lem}
 use Rattle.lines.proofs.word_line.Goals as goal
-use Rattle.lines.proofs.word_line.Goals.{Else-not-has_room}
 
-room : (c : Else-not-has_room) → has_room c.args.out.now c.args.at ≡ true
-room c =
-    room_yes c.args.out.now c.args.at c.has_room.result c.has_room.ensures c.if-not-has_room.false
+pub returns-then-not-has_room-clause-out_after : goal.returns-then-not-has_room-clause-out_after
+returns-then-not-has_room-clause-out_after c = (no_line_lem c.args.out.now _ c.args.at (sym c.has_room.ensures ∙ c.if-not-has_room.true)).0
 
-pub returns-then-not-has_room : goal.returns-then-not-has_room
-returns-then-not-has_room c = no_line_lem c.args.out.now _ c.args.at (room_no c.args.out.now c.args.at c.has_room.result c.has_room.ensures c.if-not-has_room.true)
-
-pub worded-requires : goal.worded-requires
-worded-requires c = (roomy c.args.out.now c.args.at (room (goal.at.worded-requires c).Else-not-has_room), c.requires)
-
-pub returns : goal.returns
-returns c = line (room (goal.at.returns c).Else-not-has_room) c.worded.ensures
+pub returns-clause-out_after : goal.returns-clause-out_after
+returns-clause-out_after c =
+    (line (sym c.has_room.ensures ∙ c.if-not-has_room.false) c.worded.ensures).0

@@ -1,12 +1,8 @@
-use Prim.Native.Nat.{◌+◌, ◌/◌, ◌%◌, ◌≤◌}
-use mathlib.Core.Path.{◌≡◌, refl, sym, ◌∙◌, ap}
-use native.Mathlib.Omega.{arith}
-use lib.ListN.{length, length-set}
-use borrow.Author.Rules.{rules}
-use Rattle.lines.specs.Text.{digit, digits_of}
+use Prim.Native.Nat.{◌+◌, ◌≤◌}
+use mathlib.Core.Path.{◌≡◌}
+use lib.ListN.{length}
+use Rattle.lines.specs.Text.{digits_of}
 use Rattle.lines.specs.Buffer.{written}
-use Rattle.lines.proofs.Digits.{digits_one, digits_more, digits_some, count_one, count_more}
-use Rattle.lines.proofs.Writing.{written_one, written_last}
 use Rattle.lines.proofs.numbers.any_number.Given as goal
 
 -- `lines::numbers::any_number` meets its contract. The loop's invariant: writing the digits that are left completes the text.

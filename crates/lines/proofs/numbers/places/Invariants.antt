@@ -1,10 +1,7 @@
 use Prim.Native.Nat.{◌+◌, ◌≤◌}
 use mathlib.Core.Path.{◌≡◌}
-use native.Mathlib.Omega.{arith}
 use lib.ListN.{length}
-use borrow.Author.Rules.{rules}
 use Rattle.lines.specs.Text.{digits_of}
-use Rattle.lines.proofs.Digits.{count_one, count_more, digits_short}
 use Rattle.lines.proofs.numbers.places.Given as goal
 
 -- `lines::numbers::places` meets its contract. The loop's invariant: what is counted, with the digits that are left, is one too many.
