@@ -1,4 +1,3 @@
--- `clear_slot` meets its contract, by those of the three that it calls.
 use Prim.Native.Nat.{ℕ, ◌<◌}
 use native.Mathlib.Omega.{arith}
 use mathlib.Core.Path.{◌≡◌, refl, ap, ap₂, ◌∙◌}
@@ -18,17 +17,7 @@ use Rattle.service_table.specs.Written.{tabled}
 use Rattle.service_table.proofs.LastLaws.{masked_full}
 use Rattle.service_table.proofs.WrittenLaws.{host_as}
 use borrow.Author.Rules.{rules}
-use Rattle.service_table.proofs.clear_slot.Statement.{statement}
-use Rattle.service_table.proofs.clear_slot.Tie as tie
-
-put-values-requires : tie.Need-put-values-requires
-put-values-requires c κs = search rules
-
-put-lasts-requires : tie.Need-put-lasts-requires
-put-lasts-requires c κs = search rules
-
-clear-adjustments-requires : tie.Need-clear-adjustments-requires
-clear-adjustments-requires c κs = search rules
+use Rattle.service_table.proofs.clear_slot.Goals as goal
 
 zeros : (h : List ℕ) (a : List ℤ) (slot : ℕ) → IsSlot slot → (r₁ r₂ : Row) (a' : List ℤ) → r₁ ≡ with (row_in h) values (sets (row_in h values) (row slot) (replicate semaphores 0))
     → r₂ ≡ with r₁ lasts (masked 255 0 semaphores (row slot) (r₁ lasts)) → a' ≡ clear_rows processes slot a → host_as r₂ a' ≡ tabled (host_in h a) (cleared (table_in (host_in h a)) slot)
@@ -39,12 +28,7 @@ zeros h a slot k r₁ r₂ a' e f g =
     let l = masked_full 0 (row slot) (row_in h lasts) ∙ sets_paste (replicate semaphores 0) (row_in h lasts) (row slot) semaphores refl (omega (arith, length_part lasts h)) in
     ap₂ host_as (f ∙ ap (λ (y : Row). with y lasts (masked 255 0 semaphores (row slot) (y lasts))) e ∙ rw (v, l)) g
 
-returns : tie.Need-returns
+pub returns : goal.returns
 returns c =
-    let k = c.before.before.before.before.before.before in
-    zeros k.args.host.now _ _ k.requires _ _ _
-    c.before.before.before.before.put-values.ensures c.before.before.put-lasts.ensures c.clear-adjustments.ensures
-
-pub clear-slot-spec : {M : Type 1} → statement M
-clear-slot-spec =
-    tie.close (tie.spec put-values-requires put-lasts-requires clear-adjustments-requires returns)
+    zeros c.args.host.now _ _ c.requires _ _ _
+    c.put_values.ensures c.put_lasts.ensures c.clear_adjustments.ensures

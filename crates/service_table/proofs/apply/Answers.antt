@@ -1,4 +1,3 @@
--- `apply` meets its contract, by those of the three that it calls.
 use Prim.Native.Nat.{ℕ}
 use mathlib.Core.Path.{◌≡◌, ap, ap₂, ◌∙◌}
 use mathlib.Core.List.{List}
@@ -13,28 +12,14 @@ use Rattle.host.specs.Holding.{host_in}
 use Rattle.service_table.specs.Written.{with_copies}
 use Rattle.service_table.proofs.WrittenLaws.{host_as}
 use borrow.Author.Rules.{rules}
-use Rattle.service_table.proofs.apply.Statement.{statement}
-use Rattle.service_table.proofs.apply.Tie as tie
-
-put-values-requires : tie.Need-put-values-requires
-put-values-requires c κs = search rules
-
-put-lasts-requires : tie.Need-put-lasts-requires
-put-lasts-requires c κs = search rules
-
-put-adjustments-requires : tie.Need-put-adjustments-requires
-put-adjustments-requires c κs = search rules
+use Rattle.service_table.proofs.apply.Goals as goal
 
 copied : (h : List ℕ) (a : List ℤ) (copies : Copies) (p slot mask : ℕ) (r₁ r₂ : Row) (a' : List ℤ) → r₁ ≡ with (row_in h) values (sets (row_in h values) (row slot) copies.values)
     → r₂ ≡ with r₁ lasts (masked mask p semaphores (row slot) (r₁ lasts)) → a' ≡ sets a (undo_at p slot) copies.adjustments → host_as r₂ a' ≡ with_copies (host_in h a) p slot mask copies
 copied h a copies p slot mask r₁ r₂ a' e f g = ap₂ host_as (f ∙ ap (λ (y : Row). with y lasts (masked mask p semaphores (row slot) (y lasts))) e) g
 
-returns : tie.Need-returns
+pub returns : goal.returns
 returns c =
-    let k = c.before.before.before.before.before.before.args in
+    let k = c.args in
     copied k.host.now k.adjustments.now (record { values = k.values; adjustments = k.undo }) _ _ _ _ _ _
-    c.before.before.before.before.put-values.ensures c.before.before.put-lasts.ensures c.put-adjustments.ensures
-
-pub apply-spec : {M : Type 1} → statement M
-apply-spec =
-    tie.close (tie.spec put-values-requires put-lasts-requires put-adjustments-requires returns)
+    c.put_values.ensures c.put_lasts.ensures c.put_adjustments.ensures

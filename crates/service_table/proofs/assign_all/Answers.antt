@@ -1,4 +1,3 @@
--- `assign_all` meets its contract, by those of the two that it calls.
 use Prim.Native.Nat.{ℕ}
 use mathlib.Core.Path.{◌≡◌, refl, ap₂, ◌∙◌}
 use mathlib.Core.List.{List}
@@ -14,24 +13,14 @@ use Rattle.host.proofs.PartLaws.{by_parts}
 use Rattle.service_table.specs.Written.{tabled, with_values_from}
 use Rattle.service_table.proofs.WrittenLaws.{host_as}
 use borrow.Author.Rules.{rules}
-use Rattle.service_table.proofs.assign_all.Statement.{statement}
-use Rattle.service_table.proofs.assign_all.Tie as tie
-
-put-all-requires : tie.Need-put-all-requires
-put-all-requires c κs = search rules
-
-clear-adjustments-requires : tie.Need-clear-adjustments-requires
-clear-adjustments-requires c κs = search rules
+use Rattle.service_table.proofs.assign_all.Goals as goal
 
 given : (h : List ℕ) (a : List ℤ) (slot : ℕ) (vs : List ℕ) (r₁ : Row) (a' : List ℤ) → r₁ ≡ with_values_from (row_in h) (row slot) vs → a' ≡ clear_rows processes slot a
     → host_as r₁ a' ≡ tabled (host_in h a) (assigned_all (table_in (host_in h a)) slot vs)
 unfolding assigned_all
 given h a slot vs r₁ a' e f = ap₂ host_as (e ∙ by_parts _ _ refl) f
 
-returns : tie.Need-returns
+pub returns : goal.returns
 returns c =
-    let k = c.before.before.before.before.before.args in
-    given k.host.now k.adjustments.now k.slot (values_held (values_in k.bytes.now)) _ _ c.before.before.put_all_lem.ensures c.clear-adjustments.ensures
-
-pub assign-all-spec : {M : Type 1} → statement M
-assign-all-spec = tie.close (tie.spec put-all-requires clear-adjustments-requires returns)
+    let k = c.args in
+    given k.host.now k.adjustments.now k.slot (values_held (values_in k.bytes.now)) _ _ c.put_all.ensures c.clear_adjustments.ensures

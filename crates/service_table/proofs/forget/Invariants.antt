@@ -1,0 +1,15 @@
+use Prim.Native.Nat.{◌-◌, ◌≤◌}
+use native.Mathlib.Omega.{arith}
+use mathlib.Core.Path.{◌≡◌}
+use Rattle.model.specs.Limits.{processes}
+use Rattle.model.specs.Events.{clear_number}
+use Rattle.service_table.proofs.LoopLaws.{clear_number_more}
+use borrow.Author.Rules.{rules}
+use Rattle.service_table.proofs.forget.Given as goal
+
+-- `forget` meets its contract: one process a turn.
+abbrev pub invariant-loop-n : goal.invariant-loop-n
+invariant-loop-n l = (l.n ≤ processes) × (l.adjustments ≡ clear_number l.n l.slot l.number l.initial.adjustments)
+
+abbrev pub decreases-loop-n : goal.decreases-loop-n
+decreases-loop-n l = processes - l.n

@@ -1,0 +1,18 @@
+use Prim.Native.Nat.{◌+◌, ◌-◌, ◌≤◌}
+use native.Mathlib.Omega.{arith}
+use mathlib.Core.Path.{◌≡◌, refl, sym, ◌∙◌}
+use Rattle.model.specs.State.{row}
+use Rattle.model.specs.Values.{values_in}
+use Rattle.host.specs.Parts.{values, row_in, put}
+use Rattle.judging.specs.Value.{values_held}
+use Rattle.service_table.specs.Written.{with_values_from}
+use Rattle.service_table.proofs.SettingLaws.{held_from, put_more, put_end}
+use borrow.Author.Rules.{rules}
+use Rattle.service_table.proofs.put_all.Given as goal
+
+-- `put_all` meets its contract: the row with the values from here on is the row with all of them.
+abbrev pub invariant-loop-n : goal.invariant-loop-n
+invariant-loop-n l = (l.n ≤ l.count) × (with_values_from (row_in l.host) (row l.slot + l.n) (held_from l.bytes l.n) ≡ with_values_from (row_in l.initial.host) (row l.slot) (values_held (values_in l.bytes)))
+
+abbrev pub decreases-loop-n : goal.decreases-loop-n
+decreases-loop-n l = l.count - l.n
