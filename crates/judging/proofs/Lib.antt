@@ -8,6 +8,5 @@ pub mod WalkLaws
 pub mod NamedLaws
 pub mod StopLaws
 mod Refusals
-mod Masks
 pub mod Identifiers
 pub mod Settings

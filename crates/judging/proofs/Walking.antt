@@ -1,6 +1,6 @@
 -- The turns of the loop over an array: o is the i-th operation of the bytes, x its outcome, and c' what it leaves.
 use mathlib.Core.Path.{◌≡◌, refl, sym, ◌∙◌}
-use mathlib.Core.List.{[], ◌∷◌, List}
+use mathlib.Core.List.{List}
 use Prim.Native.Nat.{ℕ, ◌+◌, ◌*◌, ◌/◌, ◌<◌}
 use lib.ListN.{length}
 use Rattle.model.specs.declared.Operation.{Operation}

@@ -5,6 +5,7 @@
 // An array, or the values of a setting, is the bytes as they lie in the lent file; bytes that make no whole operation or value at
 // the end are ignored, as in the definition.
 #![tactic(auto)]
+
 mod amount;
 mod checks;
 mod identifier;

@@ -1,8 +1,6 @@
-use borrow.Author.Rules.{rules}
 use borrow.Author.Tests.{eq-eqb, ne_eqb}
 use mathlib.Core.Path.{◌≡◌, sym, ◌∙◌}
 use mathlib.Core.Bool.{true, false}
-use mathlib.Core.Logic.{⊎_elim}
 use lib.IntN.{ℤ, pos}
 use lib.Signed.{lt_z}
 use mir.Syntax.{w32}
@@ -10,8 +8,8 @@ use mir.Facts.{to_z-of_z}
 use mir.Val.{to_z, of_z}
 use Rattle.model.specs.Operation.{is_zero}
 use Rattle.judging.specs.Stop.{moved_to}
-use Rattle.judging.proofs.Signed.{clash, unsigned, at_most}
-use Rattle.judging.proofs.Values.{next_is, next_zero, zero_is, lowered_fits}
+use Rattle.judging.proofs.Signed.{clash, at_most}
+use Rattle.judging.proofs.Values.{next_is, next_zero, zero_is}
 use Rattle.judging.proofs.amount.next_value.Goals as goal
 use Rattle.judging.proofs.amount.next_value.Goals.{After-moved-new, Then-amount-eq0, else-new-ge0-via-then-new-ge0+else-new-le-MOST, else-new-ge0-via-else-new-ge0}
 
@@ -40,17 +38,6 @@ returns-then-amount-eq0 c =
     let a = c.args in
     rw (next_zero a.value a.amount (zero (goal.at.returns-then-amount-eq0 c).Then-amount-eq0), ne_eqb a.value 0 c.if-value-eq0.false)
 
-pub overflow_cast-result : goal.overflow_cast-result
-overflow_cast-result c =
-    let m = (goal.at.overflow_cast-result c).After-moved-new in
-    let e = new_is m in
-    rw e (unsigned (new m) (at_most (pos 0) (new m) true (rw e at c.if-new-ge0.true)) (at_most (new m) (pos 32767) true (rw e at c.if-new-le-MOST.true)))
-
-pub overflow_cast-result-else-amount-gt0 : goal.overflow_cast-result-else-amount-gt0
-overflow_cast-result-else-amount-gt0 c =
-    let e = new_is (goal.at.overflow_cast-result-else-amount-gt0 c).After-moved-new in
-    rw e (lowered_fits _ _ c.ranges.value (rw e at c.if-new-lt0.false) (rw (to_z-of_z c.ranges.amount) at c.if-amount-gt0.false))
-
 pub returns-then-new-le-MOST : goal.returns-then-new-le-MOST
 returns-then-new-le-MOST c =
     let m = (goal.at.returns-then-new-le-MOST c).After-moved-new in
@@ -68,8 +55,8 @@ returns-then-amount-gt0 c =
     let e = new_is m in
     let low = rw e at c.if-new-lt0.false in
     let above : lt_z (pos 32767) (new m) ≡ true = elim c.else-new-ge0.branch [
-      else-new-ge0-via-then-new-ge0+else-new-le-MOST w ↦ at_most (new m) (pos 32767) false (rw e at w.if-new-le-MOST.false)
-    | else-new-ge0-via-else-new-ge0 w ↦ clash (sym low ∙ at_most (pos 0) (new m) false (rw e at w.if-new-ge0.false))
+      | else-new-ge0-via-then-new-ge0+else-new-le-MOST w ↦ at_most (new m) (pos 32767) false (rw e at w.if-new-le-MOST.false)
+      | else-new-ge0-via-else-new-ge0 w ↦ clash (sym low ∙ at_most (pos 0) (new m) false (rw e at w.if-new-ge0.false))
     ] in
     rw (next_is c.args.value c.args.amount, low, above, rw (to_z-of_z c.ranges.amount) at c.if-amount-gt0.true)
 
@@ -79,7 +66,7 @@ returns-else-amount-gt0 c =
     let e = new_is m in
     let low = rw e at c.if-new-lt0.false in
     let above : lt_z (pos 32767) (new m) ≡ true = elim c.else-new-ge0.branch [
-      else-new-ge0-via-then-new-ge0+else-new-le-MOST w ↦ at_most (new m) (pos 32767) false (rw e at w.if-new-le-MOST.false)
-    | else-new-ge0-via-else-new-ge0 w ↦ clash (sym low ∙ at_most (pos 0) (new m) false (rw e at w.if-new-ge0.false))
+      | else-new-ge0-via-then-new-ge0+else-new-le-MOST w ↦ at_most (new m) (pos 32767) false (rw e at w.if-new-le-MOST.false)
+      | else-new-ge0-via-else-new-ge0 w ↦ clash (sym low ∙ at_most (pos 0) (new m) false (rw e at w.if-new-ge0.false))
     ] in
     rw (e, next_is c.args.value c.args.amount, low, above, rw (to_z-of_z c.ranges.amount) at c.if-amount-gt0.false)

@@ -1,6 +1,6 @@
 use borrow.Author.Rules.{rules}
 use borrow.Author.Tests.{le-leb, lt-leb}
-use mathlib.Core.Path.{◌≡◌, refl, sym, ap, ◌∙◌}
+use mathlib.Core.Path.{◌≡◌, sym, ap, ◌∙◌}
 use mathlib.Core.Bool.{Bool, true, false, cond, ◌&&◌}
 use native.Mathlib.Omega.{arith}
 use Prim.Native.Nat.{ℕ, ◌+◌}
@@ -29,11 +29,11 @@ loop-i-preserved c =
     let f : SFits w16 o.amount = search rules in
     -- one operation more is allowed or not
     let goes : (may : Bool) → may ≡ cond (is_zero o.amount) a.reads a.alters → law.refusal a.count a.reads a.alters (l.allowed && may) (rest a.bytes.now (l.i + 1)) ≡ law.refusal a.count a.reads a.alters true (operations_of a.bytes.now) =
-        λ may e. law.on a.count a.reads a.alters _ l.i l.allowed o c.loop-i-test.true c.operation_at-operation.ensures (lt-leb _ _ c.if-past-operation.false) may e ∙ l.invariant.1 in (
+    λ may e. law.on a.count a.reads a.alters _ l.i l.allowed o c.loop-i-test.true c.operation_at-operation.ensures (lt-leb _ _ c.if-past-operation.false) may e ∙ l.invariant.1 in (
       search rules,
       elim c.if-not-both.branch [
-        then-not-both w ↦ rw w.allowed-is (goes _ (rw (to_z-of_z f) at w.may-allowed.ensures))
-      | else-not-both w ↦ rw (w.allowed-is ∙ sym (law.and_true l.allowed)) (goes true (law.both_is a.reads a.alters (is_zero o.amount) w.if-not-both.false))
+        | then-not-both w ↦ rw w.allowed-is (goes _ (rw (to_z-of_z f) at w.may-allowed.ensures))
+        | else-not-both w ↦ rw (w.allowed-is ∙ sym (law.and_true l.allowed)) (goes true (law.both_is a.reads a.alters (is_zero o.amount) w.if-not-both.false))
       ],
       ap (λ (b : ℕ). named_within (bit_or l.names b) (rest a.bytes.now (l.i + 1))) c.number_bit-names.ensures
           ∙ more _ l.names l.i o c.loop-i-test.true c.operation_at-operation.ensures ∙ l.invariant.2,

@@ -1,17 +1,9 @@
-use borrow.Author.Rules.{rules}
-use borrow.Author.Tests.{le-leb, lt-leb}
-use mathlib.Core.Path.{◌≡◌, refl, sym, ap, ◌∙◌}
-use mathlib.Core.Bool.{Bool, true, false, cond, ◌&&◌}
-use mathlib.Core.Logic.{⊎_elim}
-use native.Mathlib.Omega.{arith}
-use Prim.Native.Nat.{ℕ, ◌+◌, ◌-◌, ◌≤◌}
-use lib.Bits.{bit_or}
-use mir.Syntax.{w16}
-use mir.Facts.{to_z-of_z}
-use Rattle.model.specs.Operation.{operations_of, is_zero}
+use mathlib.Core.Path.{◌≡◌}
+use mathlib.Core.Bool.{true}
+use Prim.Native.Nat.{◌-◌, ◌≤◌}
+use Rattle.model.specs.Operation.{operations_of}
 use Rattle.judging.specs.Named.{named_within}
-use Rattle.judging.proofs.Operations.{rest, all}
-use Rattle.judging.proofs.NamedLaws.{more, done}
+use Rattle.judging.proofs.Operations.{rest}
 use Rattle.judging.proofs.Refusals as law
 use Rattle.judging.proofs.checks.check_array.Given as goal
 

@@ -1,11 +1,11 @@
 use borrow.Author.Rules.{rules}
 use borrow.Author.Tests.{lt-ltb, le-ltb}
-use mathlib.Core.Path.{◌≡◌, ◌∙◌}
+use mathlib.Core.Path.{◌≡◌}
 use native.Mathlib.Omega.{arith}
 use Prim.Native.Nat.{◌-◌}
 use lib.IntN.{pos, negsuc, ◌-ℤ◌}
 use mir.Syntax.{w16, w32}
-use mir.Val.{to_z, of_z, SFits}
+use mir.Val.{to_z, SFits}
 use mir.Facts.{to_z-of_z}
 use Rattle.model.specs.Operation.{signed16}
 use Rattle.judging.proofs.Signed.{value_is, minus_full}

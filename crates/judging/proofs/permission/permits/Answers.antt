@@ -1,4 +1,3 @@
-use borrow.Author.Rules.{rules}
 use borrow.Author.Tests.{eq-eqb, ne_eqb}
 use Rattle.model.specs.Permission.{permits}
 use Rattle.judging.proofs.permission.permits.Goals as goal

@@ -1,11 +1,8 @@
-use mathlib.Core.Path.{◌≡◌, sym, ◌∙◌}
+use mathlib.Core.Path.{◌≡◌}
 use Prim.Native.Nat.{◌-◌, ◌≤◌}
-use native.Mathlib.Omega.{arith}
-use borrow.Author.Tests.{not-true, not-false}
 use Rattle.model.specs.Checks.{all_in_range}
 use Rattle.model.specs.Values.{values_in}
-use Rattle.judging.proofs.Settings.{values_rest, values_all, range_on, range_out, range_end}
-use borrow.Author.Rules.{rules}
+use Rattle.judging.proofs.Settings.{values_rest}
 use Rattle.judging.proofs.setting.all_in_range.Given as goal
 
 -- The invariant: the values from here on are in range if and only if all are.

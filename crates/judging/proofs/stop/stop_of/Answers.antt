@@ -4,7 +4,6 @@ use mathlib.Core.Path.{◌≡◌, refl, sym, ap, ◌∙◌}
 use mathlib.Core.Bool.{true, false, not}
 use native.Mathlib.Omega.{arith}
 use Prim.Native.Nat.{ℕ, ◌%◌}
-use lib.ListN.{get_or}
 use lib.IntN.{ℤ, pos, ◌+ℤ◌}
 use mir.Syntax.{w16, w32}
 use mir.Facts.{to_z-of_z}
@@ -60,12 +59,12 @@ loop-i-preserved c =
     let f : SFits w16 o.amount = search rules in (
       search rules,
       elim c.if-amount-eq0.branch [
-        then-amount-eq0+else-value-ne0 w ↦
-          rw w.values-is (zero_on _ c.loop-i.i o c.loop-i.values c.loop-i-test.true c.operation_at-operation.ensures refl (zero o.amount f w.if-amount-eq0.true) w.if-value-ne0.false) ∙ c.loop-i.invariant.1
-      | else-amount-eq0+else-not-in_range w ↦
-          let g : SFits w32 w.moved-new.result = search rules in
-          let inside : in_range w.moved-new.result ≡ true = sym (rw (to_z-of_z g) at w.in_range.ensures) ∙ w.if-not-in_range.false in
-          rw (w.values-is, w.value_of.ensures, to_z-of_z g) (goes_on _ c.loop-i.i o c.loop-i.values c.loop-i-test.true c.operation_at-operation.ensures refl (leads _ o.amount _ f w.if-amount-eq0.false w.moved-new.ensures) (ap not inside)) ∙ c.loop-i.invariant.1
+        | then-amount-eq0+else-value-ne0 w ↦
+            rw w.values-is (zero_on _ c.loop-i.i o c.loop-i.values c.loop-i-test.true c.operation_at-operation.ensures refl (zero o.amount f w.if-amount-eq0.true) w.if-value-ne0.false) ∙ c.loop-i.invariant.1
+        | else-amount-eq0+else-not-in_range w ↦
+            let g : SFits w32 w.moved-new.result = search rules in
+            let inside : in_range w.moved-new.result ≡ true = sym (rw (to_z-of_z g) at w.in_range.ensures) ∙ w.if-not-in_range.false in
+            rw (w.values-is, w.value_of.ensures, to_z-of_z g) (goes_on _ c.loop-i.i o c.loop-i.values c.loop-i-test.true c.operation_at-operation.ensures refl (leads _ o.amount _ f w.if-amount-eq0.false w.moved-new.ensures) (ap not inside)) ∙ c.loop-i.invariant.1
       ],
     )
 

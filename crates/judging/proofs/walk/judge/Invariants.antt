@@ -1,11 +1,8 @@
-use borrow.Author.Rules.{rules}
-use mathlib.Core.Path.{◌≡◌, ◌∙◌}
-use native.Mathlib.Omega.{arith}
+use mathlib.Core.Path.{◌≡◌}
 use Prim.Native.Nat.{◌-◌, ◌≤◌}
 use Rattle.model.specs.Operation.{operations_of}
 use Rattle.judging.specs.Walk.{copies, walk_from}
-use Rattle.judging.proofs.Operations.{rest, all}
-use Rattle.judging.proofs.Walking as law
+use Rattle.judging.proofs.Operations.{rest}
 use Rattle.judging.proofs.walk.judge.Given as goal
 
 -- The invariant: walking on from here comes to what the walk from the start does.

@@ -43,9 +43,9 @@ returns-after-with_undo c i =
     let o = c.args.operation in
     let to = value_is _ o.amount _ _ (search rules) c.next_value.ensures c.in-To.is in
     elim c.if-with_undo.branch [
-      then-with_undo+in-To-next_adjustment w ↦
-        let f : SFits w16 w.in-To-next_adjustment.adjustment = search rules in
-        rw (w.adjustments-is, to_z-of_z f) (law.undoing _ _ o i _ _ to (sym c.with_undo.ensures ∙ w.if-with_undo.true)
+      | then-with_undo+in-To-next_adjustment w ↦
+          let f : SFits w16 w.in-To-next_adjustment.adjustment = search rules in
+          rw (w.adjustments-is, to_z-of_z f) (law.undoing _ _ o i _ _ to (sym c.with_undo.ensures ∙ w.if-with_undo.true)
           (adjustment_is (get_or c.args.adjustments.now o.number (pos 0)) o.amount _ _ (search rules) (search rules) w.next_adjustment.ensures w.in-To-next_adjustment.is))
-    | else-with_undo w ↦ rw w.adjustments-is (law.plain _ _ o i _ to (sym c.with_undo.ensures ∙ w.if-with_undo.false))
+      | else-with_undo w ↦ rw w.adjustments-is (law.plain _ _ o i _ to (sym c.with_undo.ensures ∙ w.if-with_undo.false))
     ]
