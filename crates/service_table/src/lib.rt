@@ -3,6 +3,7 @@
 // Each function is lent the host's row and its adjustments, and promises the whole host after it by an equation with the
 // model's definition.
 #![tactic(auto)]
+
 ghost use Rattle.std.specs.Prelude.{◌≡◌};
 ghost use Rattle.model.specs.Limits.{processes};
 ghost use Rattle.model.specs.Look.{values_of};

@@ -10,7 +10,6 @@ use Rattle.host.specs.Holding.{table_in, host_in}
 use Rattle.host.proofs.PartLaws.{by_parts}
 use Rattle.service_table.specs.Written.{tabled}
 use Rattle.service_table.proofs.WrittenLaws.{host_as}
-use borrow.Author.Rules.{rules}
 use Rattle.service_table.proofs.assign.Goals as goal
 
 given : (h : List ℕ) (a : List ℤ) (slot n v : ℕ) (r₁ : Row) (a' : List ℤ) → r₁ ≡ put (row_in h) values (row slot + n) v → a' ≡ clear_number processes slot n a

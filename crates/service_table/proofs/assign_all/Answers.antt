@@ -12,7 +12,6 @@ use Rattle.host.specs.Holding.{table_in, host_in}
 use Rattle.host.proofs.PartLaws.{by_parts}
 use Rattle.service_table.specs.Written.{tabled, with_values_from}
 use Rattle.service_table.proofs.WrittenLaws.{host_as}
-use borrow.Author.Rules.{rules}
 use Rattle.service_table.proofs.assign_all.Goals as goal
 
 given : (h : List ℕ) (a : List ℤ) (slot : ℕ) (vs : List ℕ) (r₁ : Row) (a' : List ℤ) → r₁ ≡ with_values_from (row_in h) (row slot) vs → a' ≡ clear_rows processes slot a

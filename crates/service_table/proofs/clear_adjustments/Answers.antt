@@ -1,6 +1,4 @@
-use Prim.Native.Nat.{◌-◌}
-use Rattle.model.specs.Limits.{processes}
-use Rattle.service_table.proofs.LoopLaws.{Clearing, clear_none, clear_more, clear_all}
+use Rattle.service_table.proofs.LoopLaws.{clear_none, clear_more}
 use borrow.Author.Rules.{rules}
 use Rattle.service_table.proofs.clear_adjustments.Goals as goal
 
@@ -9,6 +7,3 @@ loop-n-init c = clear_none _ _ (search rules)
 
 pub loop-n-preserved : goal.loop-n-preserved
 loop-n-preserved c = clear_more _ c.loop-n.invariant c.requires c.loop-n-test.true c.put_adjustments.ensures
-
-pub returns : goal.returns
-returns c = clear_all c.loop-n.invariant c.loop-n-test.false

@@ -1,7 +1,6 @@
 use Prim.Native.Nat.{◌-◌}
 use Rattle.model.specs.Limits.{processes}
-use Rattle.service_table.proofs.LoopLaws.{Clearing, clear_none, clear_more, clear_all}
-use borrow.Author.Rules.{rules}
+use Rattle.service_table.proofs.LoopLaws.{Clearing}
 use Rattle.service_table.proofs.clear_adjustments.Given as goal
 
 -- `clear_adjustments` meets its contract: one process a turn.

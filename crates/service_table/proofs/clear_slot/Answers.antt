@@ -16,7 +16,6 @@ use Rattle.service_table.specs.Numbered.{IsSlot}
 use Rattle.service_table.specs.Written.{tabled}
 use Rattle.service_table.proofs.LastLaws.{masked_full}
 use Rattle.service_table.proofs.WrittenLaws.{host_as}
-use borrow.Author.Rules.{rules}
 use Rattle.service_table.proofs.clear_slot.Goals as goal
 
 zeros : (h : List ℕ) (a : List ℤ) (slot : ℕ) → IsSlot slot → (r₁ r₂ : Row) (a' : List ℤ) → r₁ ≡ with (row_in h) values (sets (row_in h values) (row slot) (replicate semaphores 0))

@@ -1,14 +1,7 @@
-use Prim.Native.Nat.{◌+◌, ◌-◌}
-use native.Mathlib.Omega.{arith}
-use mathlib.Core.Path.{◌≡◌, ap, ◌∙◌}
-use mir.Facts.{to_z-of_z}
-use mir.Syntax.{w16}
-use lib.ListN.{length, get_or}
+use Prim.Native.Nat.{◌-◌}
 use Rattle.model.specs.Limits.{semaphores}
-use Rattle.model.specs.Events.{cut, undo_all}
-use Rattle.host.proofs.RowLaws.{Reading, read_none, read_more}
-use Rattle.service_table.proofs.UndoLaws.{undone_at, cut_done}
-use borrow.Author.Rules.{rules, sfits_of}
+use Rattle.model.specs.Events.{undo_all}
+use Rattle.host.proofs.RowLaws.{Reading}
 use Rattle.service_table.proofs.cut_all.Given as goal
 
 -- `cut_all` meets its contract: one value a turn.

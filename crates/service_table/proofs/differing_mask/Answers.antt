@@ -1,18 +1,12 @@
 use borrow.Author.Tests.{eq-eqb, ne_eqb}
 use borrow.Author.Rules.{rules}
-use Prim.Native.Nat.{◌-◌, ◌≤◌}
-use mathlib.Core.Logic.{⊎_elim}
-use mathlib.Core.Path.{sym, ◌≡◌, refl, ◌∙◌}
+use mathlib.Core.Path.{sym, ◌≡◌, ◌∙◌}
 use native.Mathlib.Omega.{arith}
-use lib.ListN.{length, drop}
-use Rattle.model.specs.Marks.{differing}
+use lib.ListN.{length}
 use Rattle.model.specs.Limits.{semaphores}
 use Rattle.service_table.proofs.LoopLaws.{bit_of_lem, differing_more, differing_end}
 use Rattle.service_table.proofs.differing_mask.Goals as goal
 use Rattle.service_table.proofs.differing_mask.Goals.{else-before-i, then-before-i}
-
-pub loop-i-init : goal.loop-i-init
-loop-i-init c = (search rules, refl)
 
 pub loop-i-preserved : goal.loop-i-preserved
 loop-i-preserved c =
@@ -22,9 +16,9 @@ loop-i-preserved c =
     let more = differing_more c.loop-i.mask i c.args.before c.args.after (omega arith) (omega arith) in (
       search rules,
       elim c.if-before-i.branch [
-      then-before-i w ↦ rw (w.VAR-is, bit_of_lem i (omega arith)) (sym (rw (ne_eqb _ _ w.if-before-i.true) at more) ∙ c.loop-i.invariant.1)
-    | else-before-i w ↦ rw w.VAR-is (sym (rw (eq-eqb _ _ w.if-before-i.false) at more) ∙ c.loop-i.invariant.1)
-    ],
+        | then-before-i w ↦ rw (w.mask-is, bit_of_lem i (omega arith)) (sym (rw (ne_eqb _ _ w.if-before-i.true) at more) ∙ c.loop-i.invariant.1)
+        | else-before-i w ↦ rw w.mask-is (sym (rw (eq-eqb _ _ w.if-before-i.false) at more) ∙ c.loop-i.invariant.1)
+      ],
     )
 
 pub returns : goal.returns

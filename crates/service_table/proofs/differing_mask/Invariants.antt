@@ -1,13 +1,8 @@
-use borrow.Author.Tests.{eq-eqb, ne_eqb}
-use borrow.Author.Rules.{rules}
 use Prim.Native.Nat.{◌-◌, ◌≤◌}
-use mathlib.Core.Logic.{⊎_elim}
-use mathlib.Core.Path.{sym, ◌≡◌, refl, ◌∙◌}
-use native.Mathlib.Omega.{arith}
-use lib.ListN.{length, drop}
+use mathlib.Core.Path.{◌≡◌}
+use lib.ListN.{drop}
 use Rattle.model.specs.Marks.{differing}
 use Rattle.model.specs.Limits.{semaphores}
-use Rattle.service_table.proofs.LoopLaws.{bit_of_lem, differing_more, differing_end}
 use Rattle.service_table.proofs.differing_mask.Given as goal
 
 -- `differing_mask` meets its contract: the mask so far, with what the rest of the rows adds, is the whole mask.

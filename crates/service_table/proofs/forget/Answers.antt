@@ -1,7 +1,3 @@
-use Prim.Native.Nat.{◌-◌, ◌≤◌}
-use native.Mathlib.Omega.{arith}
-use mathlib.Core.Path.{◌≡◌}
-use Rattle.model.specs.Limits.{processes}
 use Rattle.model.specs.Events.{clear_number}
 use Rattle.service_table.proofs.LoopLaws.{clear_number_more}
 use borrow.Author.Rules.{rules}
@@ -13,6 +9,3 @@ loop-n-init c = search rules
 
 pub loop-n-preserved : goal.loop-n-preserved
 loop-n-preserved c = (search rules, clear_number_more _ _ _ _ _ _ c.loop-n.invariant.1 c.put_adjustment.ensures)
-
-pub returns : goal.returns
-returns c = let e : c.loop-n.n ≡ processes = omega arith in rw e at c.loop-n.invariant.1

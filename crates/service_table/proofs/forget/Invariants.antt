@@ -1,10 +1,7 @@
 use Prim.Native.Nat.{◌-◌, ◌≤◌}
-use native.Mathlib.Omega.{arith}
 use mathlib.Core.Path.{◌≡◌}
 use Rattle.model.specs.Limits.{processes}
 use Rattle.model.specs.Events.{clear_number}
-use Rattle.service_table.proofs.LoopLaws.{clear_number_more}
-use borrow.Author.Rules.{rules}
 use Rattle.service_table.proofs.forget.Given as goal
 
 -- `forget` meets its contract: one process a turn.

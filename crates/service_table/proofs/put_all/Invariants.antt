@@ -1,13 +1,11 @@
 use Prim.Native.Nat.{◌+◌, ◌-◌, ◌≤◌}
-use native.Mathlib.Omega.{arith}
-use mathlib.Core.Path.{◌≡◌, refl, sym, ◌∙◌}
+use mathlib.Core.Path.{◌≡◌}
 use Rattle.model.specs.State.{row}
 use Rattle.model.specs.Values.{values_in}
-use Rattle.host.specs.Parts.{values, row_in, put}
+use Rattle.host.specs.Parts.{row_in}
 use Rattle.judging.specs.Value.{values_held}
 use Rattle.service_table.specs.Written.{with_values_from}
-use Rattle.service_table.proofs.SettingLaws.{held_from, put_more, put_end}
-use borrow.Author.Rules.{rules}
+use Rattle.service_table.proofs.SettingLaws.{held_from}
 use Rattle.service_table.proofs.put_all.Given as goal
 
 -- `put_all` meets its contract: the row with the values from here on is the row with all of them.
