@@ -1,5 +1,6 @@
 // A part of the service: the queue of the sleepers, in the host's row.
 #![tactic(auto)]
+
 ghost use Rattle.std.specs.Prelude.{◌≡◌, ◌≢◌, [], ◌∷◌, ◌++◌, ◌<◌, ◌≤◌, pos, length};
 ghost use Rattle.model.specs.Limits.{processes};
 ghost use Rattle.model.specs.State.{Sleeper};
