@@ -3,6 +3,7 @@
 //
 // They read the row alone, so their promises hold whatever the adjustments are.
 #![tactic(auto)]
+
 ghost use Rattle.std.specs.Prelude.{◌≡◌, cond, not, ◌||◌, List, ◌%◌, ◌<◌, eqb, ltb, leb, ℤ};
 ghost use Rattle.model.specs.Limits.{operation_bytes};
 ghost use Rattle.model.specs.Operation.{operations_of};

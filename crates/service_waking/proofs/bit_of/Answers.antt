@@ -1,0 +1,8 @@
+use Prim.Native.Nat.{◌-◌}
+use native.Mathlib.Omega.{arith}
+use borrow.Author.Rules.{rules}
+use Rattle.service_waking.proofs.ByProcess.{shifted}
+use Rattle.service_waking.proofs.bit_of.Goals as goal
+
+pub returns : goal.returns
+returns c = shifted (c.args.process - 1) (omega (arith, c.requires.most))

@@ -1,0 +1,30 @@
+use Prim.Native.Nat.{◌-◌, ◌+◌, ◌<◌}
+use mathlib.Core.Path.{◌≡◌, refl, sym, ◌∙◌}
+use mathlib.Core.Logic.{⊎_elim}
+use native.Mathlib.Omega.{arith}
+use lib.ListN.{get_or}
+use borrow.Author.Rules.{rules}
+use Rattle.model.specs.State.{no_sleeper}
+use Rattle.model.specs.Judge.{finishes}
+use Rattle.model.specs.Waking.{finish}
+use Rattle.host.specs.Parts.{order, sleeps_at, row_in}
+use Rattle.host.specs.Holding.{entry, asleep_in}
+use Rattle.service_waking.specs.Lent.{Lent, lent_in, world_in, lent_with, JudgedAs, plainly}
+use Rattle.service_waking.proofs.LentLaws.{asleep_few, within, woken_few}
+use Rattle.service_waking.proofs.SettleLaws.{settleable, judged_in}
+use Rattle.service_waking.proofs.WakingLoops.{Begun, begun, Again, PlainTurn, plain_first, plain_skips, plain_goes_on, plain_again_here, plain_done}
+use Rattle.service_waking.proofs.wake_plain.Given as goal
+
+-- `service_waking::wake_plain` meets its contract.
+abbrev pub invariant-loop-i : goal.invariant-loop-i
+invariant-loop-i l = (l.host ≡ l.initial.host) × (l.adjustments ≡ l.initial.adjustments) × (l.wakings ≡ l.initial.wakings) × (l.woken ≡ l.initial.woken) × PlainTurn l.slot (lent_in l.initial.host l.initial.adjustments l.initial.wakings l.initial.woken) l.initial.looks l.i l.looks
+
+abbrev pub decreases-loop-i : goal.decreases-loop-i
+decreases-loop-i l = l.n - l.i
+
+abbrev pub invariant-rounds : goal.invariant-rounds
+invariant-rounds l = Begun l.initial.looks (lent_in l.host l.adjustments l.wakings l.woken) l.looks
+    × (plainly l.slot (lent_in l.host l.adjustments l.wakings l.woken) l.looks ≡ plainly l.slot (lent_in l.initial.host l.initial.adjustments l.initial.wakings l.initial.woken) l.initial.looks)
+
+abbrev pub decreases-rounds : goal.decreases-rounds
+decreases-rounds l = asleep_in (row_in l.host)
