@@ -28,7 +28,7 @@ impl Program {
     pub fn replay(&self, file: &[u8]) -> Result<Replay, String> {
         let name = self.0.display();
         if !self.0.is_file() {
-            let built = "`rt check` in the repository's folder builds target/bin/replay";
+            let built = "tools/build-programs makes target/bin/replay, once `rt check` has proved it";
             return Err(format!("there is no program {name}; {built}"));
         }
         let output = self.run(file).map_err(|error| format!("{name}: {error}"))?;
