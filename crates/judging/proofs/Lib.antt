@@ -8,5 +8,6 @@ pub mod WalkLaws
 pub mod NamedLaws
 pub mod StopLaws
 mod Refusals
+mod Masks
 pub mod Identifiers
 pub mod Settings

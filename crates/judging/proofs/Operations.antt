@@ -3,9 +3,19 @@ use mathlib.Core.Path.{◌≡◌}
 use mathlib.Core.List.{List, [], ◌∷◌}
 use Prim.Native.Nat.{ℕ, suc, ◌+◌, ◌*◌, ◌-◌, ◌/◌, ◌<◌}
 use native.Mathlib.Omega.{arith}
-use lib.ListN.{length}
+use lib.ListN.{length, get_or}
+use lib.IntN.{ℤ}
 use Rattle.model.specs.declared.Operation.{Operation}
-use Rattle.model.specs.Operation.{operation_at, operations_from, operations_of}
+use Rattle.model.specs.Operation.{two, signed16, operation_at, operations_from, operations_of}
+
+-- an operation, from what its six bytes are read as
+pub read_as_lem : (bytes : List ℕ) (at : ℕ) (number raw flags : ℕ) (amount : ℤ)
+    → number ≡ two (get_or bytes at 0) (get_or bytes (at + 1) 0)
+    → raw ≡ two (get_or bytes (at + 2) 0) (get_or bytes (at + 3) 0)
+    → amount ≡ signed16 raw
+    → flags ≡ two (get_or bytes (at + 4) 0) (get_or bytes (at + 5) 0)
+    → ◌≡◌ {A = Operation} (record { number = number; amount = amount; flags = flags }) (operation_at bytes at)
+read_as_lem bytes at number raw flags amount n r a f = rw (n, a, r, f)
 
 -- the operations from the i-th on
 abbrev pub rest : List ℕ → ℕ → List Operation

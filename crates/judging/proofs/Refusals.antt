@@ -8,6 +8,7 @@ use lib.ListN.{length}
 use Rattle.model.specs.declared.Operation.{Operation}
 use Rattle.model.specs.Operation.{operation_at, is_zero}
 use Rattle.model.specs.Checks.{check, number_too_high, permitted}
+use borrow.Author.Tests.{not-false}
 use Rattle.judging.proofs.Operations.{rest, first, none}
 use Rattle.judging.proofs.Signed.{clash}
 
@@ -20,10 +21,13 @@ joined true b c = refl
 joined false b c = refl
 
 -- one that may both may either
-pub both_is : (reads alters zero : Bool) → reads && alters ≡ true → true ≡ cond zero reads alters
-both_is true b true h = refl
-both_is true b false h = sym h
-both_is false b z h = clash h
+pub both_allowed : (reads alters zero : Bool) → reads && alters ≡ true → true ≡ cond zero reads alters
+both_allowed true b true h = refl
+both_allowed true b false h = sym h
+both_allowed false b z h = clash h
+
+pub both_is : (reads alters zero : Bool) → not (reads && alters) ≡ false → true ≡ cond zero reads alters
+both_is reads alters zero e = both_allowed reads alters zero (not-false _ e)
 
 pub and_true : (b : Bool) → b && true ≡ b
 and_true true = refl

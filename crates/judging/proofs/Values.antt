@@ -4,11 +4,11 @@ use mathlib.Core.Bool.{Bool, true, false, cond, ◌&&◌}
 use Prim.Native.Nat.{ℕ, zero, suc, ◌+◌, ◌-◌, ◌<◌}
 use native.Mathlib.Nat.{zero-add}
 use native.Mathlib.Omega.{arith}
-use lib.Dec.{ltb, eqb}
+use lib.Dec.{T, ltb, eqb}
 use lib.IntN.{ℤ, pos, negsuc, nat_abs, neg_ℤ, +ℤ_idl}
-use lib.Signed.{lt_z}
+use lib.Signed.{lt_z, non_neg}
 use mir.Syntax.{w16}
-use mir.Val.{SFits, to_z, of_z}
+use mir.Val.{SFits, Fits, to_z, of_z}
 use mir.Facts.{to_z-of_z}
 use borrow.Author.Tests.{lt-ltb, le-ltb, ne_eqb}
 use Rattle.model.specs.declared.Next.{Next}
@@ -48,6 +48,19 @@ unfolding next_value is_zero
 next_zero v (pos zero) h = refl
 next_zero v (pos (suc n)) h = clash (sym (ne_eqb (suc n) 0 (λ e. omega arith)) ∙ h)
 next_zero v (negsuc n) h = clash h
+
+-- where an amount that is not above 0 leads can be cast to sixteen bits, if it is not below 0
+pub lowered_fits : (v : ℕ) (z : ℤ) → Fits w16 v → lt_z (moved_to v z) (pos 0) ≡ false → lt_z (pos 0) z ≡ false → T (non_neg (moved_to v z)) × Fits w16 (nat_abs (moved_to v z))
+unfolding is_zero
+lowered_fits zero (pos zero) f h k = (tt, record { fits = omega arith })
+lowered_fits (suc v) (pos zero) f h k = clash (sym (rw (lt-ltb 0 (suc v) (omega arith)) at h))
+lowered_fits v (pos (suc n)) f h k = clash (sym k ∙ lt-ltb 0 (suc n) (omega arith))
+lowered_fits v (negsuc n) f h k = go (ltb v (suc n)) h
+  where
+    go : (b : Bool) → lt_z (cond b (negsuc (suc n - suc v)) (pos (v - suc n))) (pos 0) ≡ false
+        → T (non_neg (cond b (negsuc (suc n - suc v)) (pos (v - suc n)))) × Fits w16 (nat_abs (cond b (negsuc (suc n - suc v)) (pos (v - suc n))))
+    go true e = clash (sym e)
+    go false e = (tt, record { fits = omega (arith, f.fits) })
 
 -- ---- the sign of an amount, by its sixteen bits
 pub zero_is : {z : ℤ} → SFits w16 z → eqb (of_z w16 z) 0 ≡ is_zero z

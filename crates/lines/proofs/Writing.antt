@@ -1,15 +1,16 @@
 -- Texts written one behind the other.
-use Prim.Native.Nat.{ℕ, suc, ◌+◌, ◌<◌, ◌≤◌}
+use Prim.Native.Nat.{ℕ, suc, ◌+◌, ◌-◌, ◌<◌, ◌≤◌}
 use mathlib.Core.Path.{◌≡◌, refl, sym, ap, ◌∙◌}
 use mathlib.Core.Bool.{Bool, true, false, not}
 use mathlib.Core.List.{List, [], ◌∷◌, ◌++◌, append_assoc}
 use native.Mathlib.Nat.{add_assoc, add-zero}
 use native.Mathlib.Omega.{arith}
 use native.Mathlib.Numerals.{add-one}
+use lib.Dec.{leb}
 use lib.ListN.{length, take, drop, set, length-append, length-drop, length-set}
 use lib.Seq.{paste, paste-zero, length-paste, take-paste, drop-paste, drop-drop, take-length, length-take-le, take-set-le, drop-set-lt, set_split, drop_at, append_snoc}
 use mir.Val.{bool_byte}
-use borrow.Author.Tests.{not-true, not-false, leb-true}
+use borrow.Author.Tests.{not-true, not-false, leb-true, leb-false, le-leb, lt-leb}
 use Rattle.lines.specs.Buffer.{written, Put, PutIn, line_bytes, has_room, put_line}
 use Rattle.lines.proofs.Digits.{lead}
 
@@ -89,6 +90,14 @@ pub at_most : {m n : ℕ} {out after : List ℕ} {at next : ℕ} {s : List ℕ} 
 at_most p h = record { put = p.put; short = omega (arith, p.short) }
 
 -- ---- whole lines
+
+-- room tested without a sum
+pub leb_over : (at len : ℕ) → line_bytes ≤ len → leb at (len - line_bytes) ≡ leb (at + line_bytes) len
+leb_over at len h = by (leb at (len - line_bytes)) refl
+  where
+    by : (t : Bool) → leb at (len - line_bytes) ≡ t → t ≡ leb (at + line_bytes) len
+    by true e = sym (le-leb (at + line_bytes) len (omega (arith, leb-true at (len - line_bytes) e)))
+    by false e = sym (lt-leb (at + line_bytes) len (omega (arith, leb-false at (len - line_bytes) e)))
 
 -- what the test tells
 pub room_yes : (out : List ℕ) (at : ℕ) (r : Bool) → r ≡ has_room out at → not r ≡ false → has_room out at ≡ true

@@ -33,7 +33,7 @@ loop-i-preserved c =
       search rules,
       elim c.if-not-both.branch [
         | then-not-both w ↦ rw w.allowed-is (goes _ (rw (to_z-of_z f) at w.may-allowed.ensures))
-        | else-not-both w ↦ rw (w.allowed-is ∙ sym (law.and_true l.allowed)) (goes true (law.both_is a.reads a.alters (is_zero o.amount) w.if-not-both.false))
+        | else-not-both w ↦ rw (w.allowed-is ∙ sym (law.and_true l.allowed)) (goes true (law.both_allowed a.reads a.alters (is_zero o.amount) w.if-not-both.false))
       ],
       ap (λ (b : ℕ). named_within (bit_or l.names b) (rest a.bytes.now (l.i + 1))) c.number_bit-names.ensures
           ∙ more _ l.names l.i o c.loop-i-test.true c.operation_at-operation.ensures ∙ l.invariant.2,
