@@ -2,12 +2,10 @@
 use Prim.Native.Nat.{ℕ, ◌+◌, ◌≤◌, ◌<◌}
 use native.Mathlib.Omega.{arith}
 use mathlib.Core.Path.{◌≡◌, refl, sym, ap, ap₂, subst, ◌∙◌}
+use mathlib.Core.Logic.{◌≢◌}
 use mathlib.Core.List.{List, [], ◌∷◌, ◌++◌}
 use lib.IntN.{ℤ, pos}
 use lib.ListN.{length, get_or, set}
-use types.Run.{OneOf, miss}
-use denote.Enum.Declared.{tag_of}
-use Rattle.model.specs.contracts.Outcome.{the_type}
 use Rattle.model.specs.declared.Set.{Set}
 use Rattle.model.specs.declared.Position.{Position}
 use Rattle.model.specs.declared.Waking.{Waking}
@@ -17,14 +15,14 @@ use Rattle.model.specs.declared.Judged.{Judged}
 use Rattle.model.specs.declared.Outcome.{Outcome}
 use Rattle.model.specs.declared.Outcome.TheVariants.{Done, Sleep, Again, Range}
 use Rattle.model.specs.Limits.{semaphores, processes}
-use Rattle.model.specs.State.{Table, Sleeper, no_sleeper, row}
+use Rattle.model.specs.State.{Table, Sleeper, no_sleeper}
 use Rattle.model.specs.Judge.{code_of, decided_at, decider_of}
 use Rattle.model.specs.Look.{look, after, applied}
 use Rattle.model.specs.Waking.{World, finish, without, waking}
 use Rattle.model.specs.Invariant.{Fits, Calm, count_at}
 use Rattle.model.proofs.Lists.{all_map, all_at}
 use Rattle.model.proofs.WakingLaws.{finish_wakings}
-use Rattle.host.specs.Parts.{counts, order, sleeps_at, Row}
+use Rattle.host.specs.Parts.{order, sleeps_at, Row}
 use Rattle.host.specs.Holding.{with_queue, with_table, sets_from, sets_in, entry, array_in, asleep_in, queue_in, table_in}
 use Rattle.host.specs.Queue.{Queued, QueueHeld}
 use Rattle.host.proofs.PartLaws.{by_groups}
@@ -220,14 +218,14 @@ module _ (x : Lent) (r : Ready x) where
               ap₂ (λ (p : Row) (l : List ℤ). record { host = record { row = p; adjustments = l }; wakings = y.wakings; woken = y.woken }) a b
               ∙ ap₂ (λ (l : List Place) (m : ℕ). record { host = record { row = row; adjustments = adjustments }; wakings = l; woken = m }) w n
 
--- an array that is not done leaves the table
 -- what was judged and is not done: its copies do not count
-pub undone_as : {t : Table} {s : Sleeper} {o : Outcome} {i : ℕ} {c : Copies} → JudgedAs t s o i c → OneOf (1 ∷ 2 ∷ 3 ∷ []) (tag_of the_type o) → (d : Copies) → JudgedAs t s o i d
-undone_as j k d = record { outcome = j.outcome; position = j.position; copies = λ e. absurd (miss (1 ∷ 2 ∷ 3 ∷ []) 0 tt (subst (λ (x : Outcome). OneOf (1 ∷ 2 ∷ 3 ∷ []) (tag_of the_type x)) e k)) }
+pub undone_as : {t : Table} {s : Sleeper} {o : Outcome} {i : ℕ} {c : Copies} → JudgedAs t s o i c → o ≢ Done → (d : Copies) → JudgedAs t s o i d
+undone_as j k d = record { outcome = j.outcome; position = j.position; copies = λ e. absurd (k e) }
 
-pub after_stays : (t : Table) (s : Sleeper) (o : Outcome) (c : Copies) → OneOf (1 ∷ 2 ∷ 3 ∷ []) (tag_of the_type o) → t ≡ after t s o c
+-- an array that is not done leaves the table
+pub after_stays : (t : Table) (s : Sleeper) (o : Outcome) (c : Copies) → o ≢ Done → t ≡ after t s o c
 unfolding after
-after_stays t s Done c h = absurd (miss (1 ∷ 2 ∷ 3 ∷ []) 0 tt h)
+after_stays t s Done c h = absurd (h refl)
 after_stays t s Sleep c h = refl
 after_stays t s Again c h = refl
 after_stays t s Range c h = refl

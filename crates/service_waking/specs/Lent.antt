@@ -9,7 +9,7 @@ use Rattle.model.specs.State.{Table, Sleeper, no_sleeper}
 use Rattle.model.specs.Judge.{finishes}
 use Rattle.model.specs.Look.{look}
 use Rattle.model.specs.Waking.{World, Ended, plain, quick, waker}
-use Rattle.model.specs.Events.{world, treat_from}
+use Rattle.model.specs.Events.{treat_from}
 use Rattle.model.specs.Invariant.{Good, Fits, Calm, count_at}
 use Rattle.host.specs.Holding.{Host, host_in, host_with, sets_in, table_in, queue_in}
 use Rattle.host.specs.Queue.{QueueHeld}

@@ -3,6 +3,7 @@
 // A rule is lent the row, the adjustments and the list of wakings; it is handed the looks and wakings so far, and returns
 // them. Its promise is one equation with the model's rule on the world that they hold.
 #![tactic(auto)]
+
 ghost use Rattle.std.specs.Prelude.{◌≡◌, ◌+◌, ◌≤◌, nat_abs, length, get_or};
 ghost use Rattle.model.specs.Limits.{slots};
 ghost use Rattle.model.specs.State.{no_sleeper};

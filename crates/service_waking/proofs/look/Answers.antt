@@ -5,25 +5,17 @@ use Rattle.host.specs.Holding.{host_in, table_in, queue_in}
 use Rattle.service_waking.specs.Lent.{JudgedAs}
 use Rattle.service_waking.proofs.LentLaws.{undone_as}
 use Rattle.service_waking.proofs.SettleLaws.{looked}
-use borrow.Author.Rules.{rules}
 use Rattle.service_waking.proofs.look.Goals as goal
-use Rattle.service_waking.proofs.look.Goals.{After-judge-verdict, Start}
+use Rattle.service_waking.proofs.look.Goals.{After-judge-verdict}
 
--- where the function was entered
-abbrev start : After-judge-verdict → Start
-start c = c.before.before.before.before.before.before.before.before
-
-judged : (c : After-judge-verdict) → let a = (start c).args in JudgedAs (table_in (host_in a.host.now a.adjustments.now)) (get_or (queue_in (row_in a.host.now)) a.at no_sleeper) c.judge-verdict.result.outcome c.judge-verdict.result.position (record { values = c.judge-verdict.new.values; adjustments = c.judge-verdict.new.adjustments.0 })
+-- how the array was judged
+judged : (c : After-judge-verdict) → let a = c.args in JudgedAs (table_in (host_in a.host.now a.adjustments.now)) (get_or (queue_in (row_in a.host.now)) a.at no_sleeper) c.judge-verdict.result.outcome c.judge-verdict.result.position (record { values = c.judge-verdict.new.values; adjustments = c.judge-verdict.new.adjustments })
 judged c =
-    let a = start c in
-    let p = c.process_at-process.ensures in
-    let s = c.slot_at-slot.ensures in
-    let v = c.values_of-values.ensures in
-    let u = c.adjustments_of-undo.ensures in
-    looked (host_in a.args.host.now a.args.adjustments.now) a.args.at a.pre p s c.array_of.ensures v u _ _ _ c.judge-verdict.ensures
+    let a = c.args in
+    looked (host_in a.host.now a.adjustments.now) a.at c.requires c.process_at-process.ensures c.slot_at-slot.ensures c.array_of.ensures c.values_of-values.ensures c.adjustments_of-undo.ensures _ _ _ c.judge-verdict.ensures
 
 pub returns-in-Done : goal.returns-in-Done
-returns-in-Done c = judged (goal.at.returns-in-Done c).After-array_of
+returns-in-Done c = judged (goal.at.returns-in-Done c).After-judge-verdict
 
 pub returns-in_default : goal.returns-in_default
-returns-in_default c = undone_as (judged (goal.at.returns-in_default c).After-judge-verdict) c.in_default.is _
+returns-in_default c = undone_as (judged (goal.at.returns-in_default c).After-judge-verdict) c.in_default.not-Done _

@@ -1,8 +1,4 @@
-use Prim.Native.Nat.{◌-◌}
-use borrow.Author.Rules.{rules}
-use Rattle.model.specs.Limits.{processes}
-use Rattle.host.specs.Parts.{row_in}
-use Rattle.service_waking.proofs.Marking.{Marking, mark_none, mark_more, mark_all}
+use Rattle.service_waking.proofs.Marking.{mark_none, mark_more, mark_all}
 use Rattle.service_waking.proofs.mark_touched.Goals as goal
 
 pub loop-n-init : goal.loop-n-init

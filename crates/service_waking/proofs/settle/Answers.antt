@@ -14,10 +14,10 @@ returns-in-Done c =
     let v : length c.args.values ≡ semaphores = search rules in
     let u : length c.args.undo ≡ semaphores = search rules in
     settle_done (host_in c.args.host.now c.args.adjustments.now) c.args.at c.requires (record { values = c.args.values; adjustments = c.args.undo })
-    c.enum_told-1.given.1 v u
+    c.in-Done.is v u
     c.process_at-process.ensures c.slot_at-slot.ensures c.names_at-mask.ensures c.apply.ensures
 
 pub returns-in_default : goal.returns-in_default
 returns-in_default c =
     let x = host_in c.args.host.now c.args.adjustments.now in
-    tabled_same x ∙ ap (tabled x) (after_stays _ _ _ _ c.in_default.is)
+    tabled_same x ∙ ap (tabled x) (after_stays _ _ _ _ c.in_default.not-Done)

@@ -1,16 +1,7 @@
 use Prim.Native.Nat.{◌-◌}
-use mathlib.Core.Path.{◌≡◌, sym, ◌∙◌}
-use mathlib.Core.Logic.{⊎_elim}
-use native.Mathlib.Omega.{arith}
-use lib.ListN.{get_or}
 use Rattle.model.specs.Limits.{slots}
-use Rattle.model.specs.State.{no_set}
-use Rattle.host.specs.Parts.{row_in}
-use Rattle.host.specs.Holding.{sets_in}
-use Rattle.host.proofs.SetRows.{set_in}
 use Rattle.service_waking.specs.Lent.{lent_in}
-use Rattle.service_waking.proofs.SetLoops.{Walk, walk_first, walk_free, walk_live, walk_done}
-use borrow.Author.Rules.{rules}
+use Rattle.service_waking.proofs.SetLoops.{Walk}
 use Rattle.service_waking.proofs.wake_all.Given as goal
 
 -- `service_waking::wake_all` meets its contract: what is left to treat at a slot gives what all gave at the start.

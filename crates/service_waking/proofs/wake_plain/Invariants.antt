@@ -1,18 +1,9 @@
-use Prim.Native.Nat.{◌-◌, ◌+◌, ◌<◌}
-use mathlib.Core.Path.{◌≡◌, refl, sym, ◌∙◌}
-use mathlib.Core.Logic.{⊎_elim}
-use native.Mathlib.Omega.{arith}
-use lib.ListN.{get_or}
-use borrow.Author.Rules.{rules}
-use Rattle.model.specs.State.{no_sleeper}
-use Rattle.model.specs.Judge.{finishes}
-use Rattle.model.specs.Waking.{finish}
-use Rattle.host.specs.Parts.{order, sleeps_at, row_in}
-use Rattle.host.specs.Holding.{entry, asleep_in}
-use Rattle.service_waking.specs.Lent.{Lent, lent_in, world_in, lent_with, JudgedAs, plainly}
-use Rattle.service_waking.proofs.LentLaws.{asleep_few, within, woken_few}
-use Rattle.service_waking.proofs.SettleLaws.{settleable, judged_in}
-use Rattle.service_waking.proofs.WakingLoops.{Begun, begun, Again, PlainTurn, plain_first, plain_skips, plain_goes_on, plain_again_here, plain_done}
+use Prim.Native.Nat.{◌-◌}
+use mathlib.Core.Path.{◌≡◌}
+use Rattle.host.specs.Parts.{row_in}
+use Rattle.host.specs.Holding.{asleep_in}
+use Rattle.service_waking.specs.Lent.{lent_in, plainly}
+use Rattle.service_waking.proofs.WakingLoops.{Begun, PlainTurn}
 use Rattle.service_waking.proofs.wake_plain.Given as goal
 
 -- `service_waking::wake_plain` meets its contract.

@@ -1,11 +1,9 @@
-use Prim.Native.Nat.{ℕ, ◌-◌, ◌+◌, ◌<◌}
+use Prim.Native.Nat.{ℕ, ◌+◌, ◌<◌}
 use mathlib.Core.Path.{◌≡◌, refl, sym, ap, ap₂, subst, subst⁻¹, ◌∙◌}
-use mathlib.Core.Logic.{⊎_elim}
 use native.Mathlib.Omega.{arith}
 use mathlib.Core.List.{List}
 use lib.IntN.{ℤ}
 use lib.ListN.{get_or}
-use borrow.Author.Rules.{rules}
 use Rattle.model.specs.declared.Copies.{Copies}
 use Rattle.model.specs.declared.Outcome.{Outcome}
 use Rattle.model.specs.Limits.{semaphores}
@@ -14,204 +12,162 @@ use Rattle.model.specs.Marks.{bit_of}
 use Rattle.model.specs.Waking.{finish}
 use Rattle.host.specs.Parts.{values, order, sleeps_at, row_in}
 use Rattle.host.specs.Rows.{from}
-use Rattle.host.specs.Holding.{host_in, entry, asleep_in, table_in, queue_in}
+use Rattle.host.specs.Holding.{entry, asleep_in, table_in, queue_in}
 use Rattle.host.specs.Queue.{QueueHeld}
 use Rattle.service_waking.specs.Lent.{Lent, lent_in, world_in, lent_with, JudgedAs, Settleable, Finishable, quickly}
 use Rattle.service_waking.proofs.LentLaws.{asleep_few, within, woken_few, is_process, ready_row}
 use Rattle.service_waking.proofs.LookLaws.{values_in_lem}
 use Rattle.service_waking.proofs.SettleLaws.{settleable, judged_in}
-use Rattle.service_waking.proofs.WakingLoops.{Begun, begun, begun_next, Again}
-use Rattle.service_waking.proofs.QuickLoops.{QuickTurn, quick_first, quick_skips, quick_passes, quick_goes_on, quick_few, quick_again_here, quick_done, quick_spent}
+use Rattle.service_waking.proofs.WakingLoops.{Begun, begun, begun_next}
+use Rattle.service_waking.proofs.QuickLoops.{quick_skips, quick_passes, quick_goes_on, quick_again_here, quick_done, quick_spent}
 use Rattle.service_waking.proofs.wake_quick.Goals as goal
-use Rattle.service_waking.proofs.wake_quick.Goals.{After-bit_of-bit, After-finish, After-look-looked, After-mark_touched-marks, After-process_at-process, After-slot_at, At-loop-i, At-rounds, else-on-ne0, then-on-ne0}
+use Rattle.service_waking.proofs.wake_quick.Goals.{After-mark_touched-marks, else-on-ne0, then-on-ne0+else-slot_at-slot, then-on-ne0+then-slot_at-slot+else-finishes}
 
--- ---- the parts of a turn: the round and the position it is at, and what came before
-abbrev turn : After-process_at-process → At-loop-i
-turn c = c.before.before.before.before
+-- what is lent where the round began is lent still
+same : {h h₀ : List ℕ} {a a₀ : List ℤ} {w w₀ : List ℕ} {n n₀ : ℕ} → h ≡ h₀ → a ≡ a₀ → w ≡ w₀ → n ≡ n₀ → lent_in h a w n ≡ lent_in h₀ a₀ w₀ n₀
+same {h} {h₀} {a} {a₀} {w} {w₀} {n} {n₀} eh ea ew en =
+    ap₂ (λ (k : List ℕ) (b : List ℤ). lent_in k b w n) eh ea ∙ ap₂ (lent_in h₀ a₀) ew en
 
-abbrev round : At-loop-i → At-rounds
-round c = c.before.before.before
-
-abbrev of-look : After-look-looked → After-slot_at
-of-look c = c.before.before.before.before
-
-abbrev of-finish : After-finish → After-look-looked
-of-finish c = c.before.before.before.before.before.before.before.before
-
-abbrev of-slot : After-slot_at → After-bit_of-bit
-of-slot c = c.before.before.before
-
-abbrev of-marks : After-mark_touched-marks → After-finish
-of-marks c = c.before.before.before.before.before
-
--- what is lent where the round began
-abbrev lent : At-loop-i → Lent
-lent t = let o = (round t).rounds in lent_in o.host o.adjustments o.wakings o.woken
-
--- .. is lent still
-same : (t : At-loop-i) → lent_in t.loop-i.host t.loop-i.adjustments t.loop-i.wakings t.loop-i.woken ≡ lent t
-same t =
-    let l = t.loop-i in
-    let o = (round t).rounds in
-    ap₂ (λ (h : List ℕ) (a : List ℤ). lent_in h a l.wakings l.woken) l.invariant.0 l.invariant.1 ∙ ap₂ (lent_in o.host o.adjustments) l.invariant.2 l.invariant.3
-
--- the sleeper of this turn is there: its process, its bit and its slot
-there : (c : After-process_at-process) → (turn c).loop.i < asleep_in (row_in (round (turn c)).rounds.host)
-there c = rw (turn c).before.asleep_of.ensures at c.loop-i-test.true
-
-at-process : (c : After-process_at-process) → c.process_at-process.result ≡ get_or (row_in (round (turn c)).rounds.host order) (turn c).loop.i 0
-at-process c = rw (turn c).loop.invariant.0 at c.process_at-process.ensures
-
-at-bit : (c : After-bit_of-bit) → let t = turn c.UP-After-process_at-process in c.bit_of-bit.result ≡ bit_of (get_or (row_in (round t).rounds.host order) t.loop.i 0)
-at-bit c = rw (at-process c.UP-After-process_at-process) at c.bit_of-bit.ensures
-
-read-slot : (d : After-process_at-process) {slot : ℕ} → let r = row_in (round (turn d)).rounds.host in
-    slot ≡ get_or (row_in (turn d).loop.host sleeps_at) (entry d.process_at-process.result) 0 → slot ≡ get_or (r sleeps_at) (entry (get_or (r order) (turn d).loop.i 0)) 0
-read-slot d e = e ∙ ap₂ (λ (h : List ℕ) (p : ℕ). get_or (row_in h sleeps_at) (entry p) 0) (turn d).loop.invariant.0 (at-process d)
-
-at_slot : (c : After-slot_at) → let t = turn (of-slot c).before in let r = row_in (round t).rounds.host in c.slot_at.result ≡ get_or (r sleeps_at) (entry (get_or (r order) t.loop.i 0)) 0
-at_slot c = read-slot (of-slot c).before c.slot_at.ensures
+-- the slot that was read is that of the sleeper at the position
+read-slot : {h h₀ : List ℕ} {p slot : ℕ} → (i : ℕ) → h ≡ h₀ → p ≡ get_or (row_in h₀ order) i 0
+    → slot ≡ get_or (row_in h sleeps_at) (entry p) 0 → slot ≡ get_or (row_in h₀ sleeps_at) (entry (get_or (row_in h₀ order) i 0)) 0
+read-slot i eh ep e = e ∙ ap₂ (λ (k : List ℕ) (p : ℕ). get_or (row_in k sleeps_at) (entry p) 0) eh ep
 
 -- how an array was judged on what is lent
-looked-at : (t : At-loop-i) {o : Outcome} {n : ℕ} {k : Copies}
-    → JudgedAs (table_in (host_in t.loop-i.host t.loop-i.adjustments)) (get_or (queue_in (row_in t.loop-i.host)) t.loop-i.i no_sleeper) o n k
-    → JudgedAs (world_in (lent t)).table (get_or (world_in (lent t)).queue t.loop-i.i no_sleeper) o n k
-looked-at t {o} {n} {k} j = judged_in (lent t) t.loop-i.i (subst (λ (y : Lent). JudgedAs (table_in y.host) (get_or (queue_in y.host.row) t.loop-i.i no_sleeper) o n k) (same t) j)
-
-judged : (c : After-look-looked) → let t = turn (of-slot (of-look c)).before in
-    JudgedAs (world_in (lent t)).table (get_or (world_in (lent t)).queue t.loop.i no_sleeper) c.look-looked.result.outcome c.look-looked.result.position (record { values = c.look-looked.result.values; adjustments = c.look-looked.result.undo })
-judged c = let t = turn (of-slot (of-look c)).before in looked-at t c.look-looked.ensures
+looked-at : {x y : Lent} → y ≡ x → (i : ℕ) {o : Outcome} {n : ℕ} {k : Copies}
+    → JudgedAs (table_in y.host) (get_or (queue_in y.host.row) i no_sleeper) o n k
+    → JudgedAs (world_in x).table (get_or (world_in x).queue i no_sleeper) o n k
+looked-at {x} e i {o} {n} {k} j = judged_in x i (subst (λ (y : Lent). JudgedAs (table_in y.host) (get_or (queue_in y.host.row) i no_sleeper) o n k) e j)
 
 -- what a finished sleeper leaves, and the rule from there on
-left : (c : After-finish) → let t = turn (of-slot (of-look (of-finish c))).before in
-    lent_in c.finish.new.host c.finish.new.adjustments.0 c.finish.new.adjustments.1.0 ((round t).rounds.woken + 1) ≡ lent_with (lent t) (finish (world_in (lent t)) t.loop.i)
-left c =
-    let t = turn (of-slot (of-look (of-finish c))).before in
-    ap (λ (n : ℕ). lent_in c.finish.new.host c.finish.new.adjustments.0 c.finish.new.adjustments.1.0 (n + 1)) (sym t.loop.inv.3)
-    ∙ c.finish.ensures
-    ∙ ap (λ (y : Lent). lent_with y (finish (world_in y) t.loop.i)) (same t)
-
-holding : (c : After-finish) → QueueHeld (row_in c.finish.new.host)
-holding c =
-    let d = (of-slot (of-look (of-finish c))).before in
-    let t = turn d in
-    let o = (round t).rounds in
-    let l = t.loop in
-    subst (λ (y : Lent). QueueHeld y.host.row) (sym (left c))
-    (ready_row _ (begun_next _ (lent t) o.looks l.i (l.looks + 1) o.inv.0 (there d) (omega (arith, l.inv.4.looks, there d, asleep_few (lent t) o.inv.0.ready))).ready)
-
-abbrev Next : After-mark_touched-marks → Type 0
-Next c =
-    let f = of-marks c in
-    let e = of-finish f in
-    let p = of-look e in
-    let b = of-slot p in
-    let t = turn b.before in
-    let o = (round t).rounds in
-    let l = t.loop in
-    let s = (round t).before.args in
-    Again s.start.looks (lent t) o.looks l.i (l.looks + 1) o.inv.0 (there b.before)
-    (quick_few s.slot (lent t) o.inv.0.ready o.looks o.marks l.i l.looks l.marks l.inv.4 (there b.before) b.bit_of_lem.result (at-bit b) p.before.before.if2.taken (sym (at_slot p) ∙ e.before.before.before.if3.taken) (judged e))
-    (quickly s.slot c.mark-touched.result) (quickly s.slot o.marks) (lent_in f.finish.last.0 f.finish.last.1.0 f.finish.last.1.1.0 (o.woken + 1))
-
-next : (c : After-mark_touched-marks) → Next c
+next : (c : After-mark_touched-marks) →
+    let o = c.rounds in
+    let f = c.finish.new in
+    let x = lent_in o.host o.adjustments o.wakings o.woken in
+    let y = lent_in f.host f.adjustments f.wakings (o.woken + 1) in
+    Begun c.args.start.looks y (c.loop-i.looks + 1) × (asleep_in (row_in f.host) < asleep_in (row_in o.host))
+    × (quickly c.args.slot c.mark_touched-marks.result y (c.loop-i.looks + 1) ≡ quickly c.args.slot o.marks x o.looks)
 next c =
-    let f = of-marks c in
-    let e = of-finish f in
-    let p = of-look e in
-    let b = of-slot p in
-    let t = turn b.before in
-    let o = (round t).rounds in
-    let l = t.loop in
-    let s = (round t).before in
-    let v = f.before.before.before.before in
-    quick_again_here s.args.slot (lent t) o.inv.0.ready o.looks o.marks l.i l.looks l.marks l.inv.4 (there b.before) b.bit_of_lem.result (at-bit b) p.before.before.if2.taken (sym (at_slot p) ∙ e.before.before.before.if3.taken) (judged e)
-    _ o.inv.0 (sym v.before.before.before.finishes.ensures ∙ v.before.before.if4.taken) (left f)
-    v.values_of.result c.values_of.result
-    (v.values_of.ensures ∙ ap (λ (h : List ℕ). from 0 semaphores (row s.args.slot) (row_in h values)) l.inv.0 ∙ values_in_lem o.host o.adjustments s.args.slot s.pre.0)
-    (c.values_of.ensures ∙ values_in_lem f.finish.last.0 f.finish.last.1.0 s.args.slot s.pre.0)
-    c.mark_touched-marks.result (rw c.differing_mask-touched.ensures at c.mark_touched-marks.ensures)
+    let o = c.rounds in
+    let l = c.loop-i in
+    let f = c.finish.new in
+    let x = lent_in o.host o.adjustments o.wakings o.woken in
+    let r = o.invariant.0.ready in
+    let k = c.look-looked.result in
+    let h : l.i < asleep_in (row_in o.host) = rw c.asleep_of-n.ensures at c.loop-i-test.true in
+    let e : lent_in l.host l.adjustments l.wakings l.woken ≡ x = same l.invariant.0 l.invariant.1 l.invariant.2 l.invariant.3 in
+    let p : c.process_at-process.result ≡ get_or (row_in o.host order) l.i 0 = rw l.invariant.0 at c.process_at-process.ensures in
+    let s : c.slot_at.result ≡ get_or (row_in o.host sleeps_at) (entry (get_or (row_in o.host order) l.i 0)) 0 = read-slot l.i l.invariant.0 p c.slot_at.ensures in
+    let j : JudgedAs (world_in x).table (get_or (world_in x).queue l.i no_sleeper) k.outcome k.position (record { values = k.values; adjustments = k.undo }) = looked-at e l.i c.look-looked.ensures in
+    let q : lent_in f.host f.adjustments f.wakings (o.woken + 1) ≡ lent_with x (finish (world_in x) l.i) =
+    ap (λ (n : ℕ). lent_in f.host f.adjustments f.wakings (n + 1)) (sym l.invariant.3) ∙ c.finish.ensures ∙ ap (λ (y : Lent). lent_with y (finish (world_in y) l.i)) e in
+    let n = quick_again_here c.args.slot x r o.looks o.marks l.i l.looks l.marks l.invariant.4 h c.bit_of-bit.result (rw p at c.bit_of-bit.ensures) c.if-on-ne0.true (sym s ∙ c.if-slot_at-slot.true) j
+    _ o.invariant.0 (sym c.finishes.ensures ∙ c.if-finishes.true) q
+    c.values_of-before.result c.values_of.result
+    (c.values_of-before.ensures ∙ ap (λ (g : List ℕ). from 0 semaphores (row c.args.slot) (row_in g values)) l.invariant.0 ∙ values_in_lem o.host o.adjustments c.args.slot c.requires.slot)
+    (c.values_of.ensures ∙ values_in_lem f.host f.adjustments c.args.slot c.requires.slot)
+    c.mark_touched-marks.result (rw c.differing_mask-touched.ensures at c.mark_touched-marks.ensures) in
+    (n.begins, n.fewer, n.same)
 
 pub rounds-init : goal.rounds-init
 rounds-init c = (begun _ _ c.requires.ready, refl)
 
-pub loop-i-init : goal.loop-i-init
-loop-i-init c = (refl, refl, refl, refl, quick_first _ _ _ _)
-
 pub bit_of-bit-requires : goal.bit_of-bit-requires
 bit_of-bit-requires c =
-    let t = turn (goal.at.bit_of-bit-requires c).After-process_at-process in
-    rw (at-process (goal.at.bit_of-bit-requires c).After-process_at-process) (is_process (lent t) (round t).rounds.inv.0.ready t.loop.i (there (goal.at.bit_of-bit-requires c).After-process_at-process))
+    let o = c.rounds in
+    let l = c.loop-i in
+    let p : c.process_at-process.result ≡ get_or (row_in o.host order) l.i 0 = rw l.invariant.0 at c.process_at-process.ensures in
+    rw p (is_process (lent_in o.host o.adjustments o.wakings o.woken) o.invariant.0.ready l.i (rw c.asleep_of-n.ensures at c.loop-i-test.true))
 
 pub look-looked-requires : goal.look-looked-requires
 look-looked-requires c =
-    let d = (of-slot (goal.at.look-looked-requires c).After-bit_of-bit).before in
-    let t = turn d in
-    let r = (round t).rounds.inv.0.ready in
-    subst⁻¹ (λ (y : Lent). Settleable y.host t.loop.i) (same t) (settleable (lent t) r t.loop.i (within (lent t) r t.loop.i (there d)))
+    let o = c.rounds in
+    let l = c.loop-i in
+    let x = lent_in o.host o.adjustments o.wakings o.woken in
+    let r = o.invariant.0.ready in
+    subst⁻¹ (λ (y : Lent). Settleable y.host l.i) (same l.invariant.0 l.invariant.1 l.invariant.2 l.invariant.3)
+    (settleable x r l.i (within x r l.i (rw c.asleep_of-n.ensures at c.loop-i-test.true)))
 
 pub finish-requires : goal.finish-requires
 finish-requires c =
-    let d = (of-slot (of-look (goal.at.finish-requires c).Then-slot_at-slot)).before in
-    let t = turn d in
-    let r = (round t).rounds.inv.0.ready in
-    subst⁻¹ (λ (y : Lent). Finishable y t.loop.i c.look.result.outcome c.look.result.position (record { values = c.look.result.values; adjustments = c.look.result.undo })) (same t)
+    let o = c.rounds in
+    let l = c.loop-i in
+    let k = c.look-looked.result in
+    let x = lent_in o.host o.adjustments o.wakings o.woken in
+    let r = o.invariant.0.ready in
+    let e : lent_in l.host l.adjustments l.wakings l.woken ≡ x = same l.invariant.0 l.invariant.1 l.invariant.2 l.invariant.3 in
+    subst⁻¹ (λ (y : Lent). Finishable y l.i k.outcome k.position (record { values = k.values; adjustments = k.undo })) e
     (record {
       ready = r;
-      there = within (lent t) r t.loop.i (there d);
+      there = within x r l.i (rw c.asleep_of-n.ensures at c.loop-i-test.true);
       finished = sym c.finishes.ensures ∙ c.if-finishes.true;
-      judged = judged (goal.at.finish-requires c).Then-slot_at-slot;
+      judged = looked-at e l.i c.look-looked.ensures;
     })
 
 pub overflow_add-woken : goal.overflow_add-woken
 overflow_add-woken c =
-    let d = (of-slot (of-look (of-finish (goal.at.overflow_add-woken c).After-finish))).before in
-    let t = turn d in
-    record { fits = omega (arith, t.loop.inv.3, woken_few (lent t) (round t).rounds.inv.0.ready t.loop.i (there d)) }
+    let o = c.rounds in
+    let l = c.loop-i in
+    let x = lent_in o.host o.adjustments o.wakings o.woken in
+    record { fits = omega (arith, l.invariant.3, woken_few x o.invariant.0.ready l.i (rw c.asleep_of-n.ensures at c.loop-i-test.true)) }
 
 pub mark_touched-marks-requires : goal.mark_touched-marks-requires
-mark_touched-marks-requires c = ((round (turn (of-slot (of-look (of-finish (goal.at.mark_touched-marks-requires c).After-finish-arg-then-finishes-1))).before)).before.pre.0, holding (goal.at.mark_touched-marks-requires c).After-finish-arg-then-finishes-1)
+mark_touched-marks-requires c =
+    let o = c.rounds in
+    let l = c.loop-i in
+    let f = c.finish.new in
+    let x = lent_in o.host o.adjustments o.wakings o.woken in
+    let h : l.i < asleep_in (row_in o.host) = rw c.asleep_of-n.ensures at c.loop-i-test.true in
+    let e : lent_in l.host l.adjustments l.wakings l.woken ≡ x = same l.invariant.0 l.invariant.1 l.invariant.2 l.invariant.3 in
+    let q : lent_in f.host f.adjustments f.wakings (l.woken + 1) ≡ lent_with x (finish (world_in x) l.i) = c.finish.ensures ∙ ap (λ (y : Lent). lent_with y (finish (world_in y) l.i)) e in
+    record {
+      slot = c.requires.slot;
+      queue_held = subst (λ (y : Lent). QueueHeld y.host.row) (sym q)
+          (ready_row _ (begun_next _ x o.looks l.i (l.looks + 1) o.invariant.0 h (omega (arith, l.invariant.4.looks, h, asleep_few x o.invariant.0.ready))).ready);
+    }
 
 pub rounds-smaller : goal.rounds-smaller
-rounds-smaller c = (next (goal.at.rounds-smaller c).After-mark_touched-marks).fewer
+rounds-smaller c = (next (goal.at.rounds-smaller c).After-mark_touched-marks).1
 
 pub rounds-preserved : goal.rounds-preserved
 rounds-preserved c =
-    let t = turn (of-slot (of-look (of-finish (of-marks (goal.at.rounds-preserved c).After-mark_touched-marks)))).before in
-    rw t.loop.inv.3 ((next (goal.at.rounds-preserved c).After-mark_touched-marks).begins, (next (goal.at.rounds-preserved c).After-mark_touched-marks).same ∙ (round t).rounds.inv.1)
+    let n = next (goal.at.rounds-preserved c).After-mark_touched-marks in
+    rw c.loop-i.invariant.3 (n.0, n.2 ∙ c.rounds.invariant.1)
 
 pub loop-i-preserved : goal.loop-i-preserved
 loop-i-preserved c =
-    let t = turn (goal.at.loop-i-preserved c).After-process_at-process in
-    let o = (round t).rounds in
-    let l = t.loop in
-    let r = o.inv.0.ready in (
-      l.inv.0,
-      l.inv.1,
-      l.inv.2,
-      l.inv.3,
+    let o = c.rounds in
+    let l = c.loop-i in
+    let x = lent_in o.host o.adjustments o.wakings o.woken in
+    let r = o.invariant.0.ready in
+    let h : l.i < asleep_in (row_in o.host) = rw c.asleep_of-n.ensures at c.loop-i-test.true in
+    let e : lent_in l.host l.adjustments l.wakings l.woken ≡ x = same l.invariant.0 l.invariant.1 l.invariant.2 l.invariant.3 in
+    let p : c.process_at-process.result ≡ get_or (row_in o.host order) l.i 0 = rw l.invariant.0 at c.process_at-process.ensures in
+    let b : c.bit_of-bit.result ≡ bit_of (get_or (row_in o.host order) l.i 0) = rw p at c.bit_of-bit.ensures in (
+      l.invariant.0,
+      l.invariant.1,
+      l.invariant.2,
+      l.invariant.3,
       elim c.if-on-ne0.branch [
-      then-on-ne0 v ↦ rw (v.9, v.10) (quick_goes_on _ (lent t) r o.looks o.marks l.i l.looks l.marks l.inv.4 (there (goal.at.loop-i-preserved c).After-process_at-process) c.bit_of-bit.result (at-bit (goal.at.loop-i-preserved c).After-bit_of-bit) v.if-on-ne0.true (sym (read-slot (goal.at.loop-i-preserved c).After-process_at-process v.2.ensures) ∙ v.3.taken) (looked-at t v.6.ensures) (sym v.7.ensures ∙ v.8.left))
-    | else-on-ne0 w ↦ ⊎_ELIM
-          (λ v. rw (v.4, v.5) (quick_skips _ (lent t) r o.looks o.marks l.i l.looks l.marks l.inv.4 (there (goal.at.loop-i-preserved c).After-process_at-process) (λ e. v.3.left (read-slot (goal.at.loop-i-preserved c).After-process_at-process v.2.ensures ∙ e))))
-          (λ v. rw (v.1, v.2) (quick_passes _ (lent t) r o.looks o.marks l.i l.looks l.marks l.inv.4 (there (goal.at.loop-i-preserved c).After-process_at-process) c.bit_of-bit.result (at-bit (goal.at.loop-i-preserved c).After-bit_of-bit) v.0.left))
-          w
-    ],
+        | then-on-ne0+then-slot_at-slot+else-finishes w ↦ rw (w.looks-is, w.marks-is) (quick_goes_on _ x r o.looks o.marks l.i l.looks l.marks l.invariant.4 h c.bit_of-bit.result b w.if-on-ne0.true (sym (read-slot l.i l.invariant.0 p w.slot_at.ensures) ∙ w.if-slot_at-slot.true) (looked-at e l.i w.look-looked.ensures) (sym w.finishes.ensures ∙ w.if-finishes.false))
+        | then-on-ne0+else-slot_at-slot w ↦ rw (w.looks-is, w.marks-is) (quick_skips _ x r o.looks o.marks l.i l.looks l.marks l.invariant.4 h (λ z. w.if-slot_at-slot.false (read-slot l.i l.invariant.0 p w.slot_at.ensures ∙ z)))
+        | else-on-ne0 w ↦ rw (w.looks-is, w.marks-is) (quick_passes _ x r o.looks o.marks l.i l.looks l.marks l.invariant.4 h c.bit_of-bit.result b w.if-on-ne0.false)
+      ],
     )
 
 -- the end: the round has come to the last sleeper, or no mark is left
 pub returns-after-loop-i : goal.returns-after-loop-i
 returns-after-loop-i c =
-    let o = (round (goal.at.returns-after-loop-i c).At-loop-i).rounds in
+    let o = c.rounds in
     let l = c.loop-i in
-    ap (λ (y : Lent). record { lent = y; looks = l.looks }) (same (goal.at.returns-after-loop-i c).At-loop-i)
-    ∙ quick_done _ (lent (goal.at.returns-after-loop-i c).At-loop-i) o.inv.0.ready o.looks o.marks l.i l.looks l.marks l.invariant.4 (rw c.asleep_of-n.ensures at c.loop-i-test.false)
-    ∙ o.inv.1
+    ap (λ (y : Lent). record { lent = y; looks = l.looks }) (same l.invariant.0 l.invariant.1 l.invariant.2 l.invariant.3)
+    ∙ quick_done _ (lent_in o.host o.adjustments o.wakings o.woken) o.invariant.0.ready o.looks o.marks l.i l.looks l.marks l.invariant.4 (rw c.asleep_of-n.ensures at c.loop-i-test.false)
+    ∙ o.invariant.1
 
 pub returns-then-marks-eq0 : goal.returns-then-marks-eq0
 returns-then-marks-eq0 c =
-    let o = (round (goal.at.returns-then-marks-eq0 c).At-loop-i).rounds in
+    let o = c.rounds in
     let l = c.loop-i in
-    ap (λ (y : Lent). record { lent = y; looks = l.looks }) (same (goal.at.returns-then-marks-eq0 c).At-loop-i)
-    ∙ quick_spent _ (lent (goal.at.returns-then-marks-eq0 c).At-loop-i) o.inv.0.ready o.looks o.marks l.i l.looks l.marks l.invariant.4 c.if-marks-eq0.true
-    ∙ o.inv.1
+    ap (λ (y : Lent). record { lent = y; looks = l.looks }) (same l.invariant.0 l.invariant.1 l.invariant.2 l.invariant.3)
+    ∙ quick_spent _ (lent_in o.host o.adjustments o.wakings o.woken) o.invariant.0.ready o.looks o.marks l.i l.looks l.marks l.invariant.4 c.if-marks-eq0.true
+    ∙ o.invariant.1
