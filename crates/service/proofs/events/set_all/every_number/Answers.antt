@@ -1,13 +1,12 @@
--- `every_number` meets its contract: the numbers below the count are the power of two less one.
 use Rattle.std.proofs.Common.{◌≡◌, ℕ, zero, suc, ◌+◌, ◌-◌, ◌*◌, ◌%◌, ◌^◌, ◌<◌, ◌≤◌, refl, ◌∙◌, mod-eq_of_lt, one-mul, pow-suc, arith, rules}
 use native.Mathlib.Decide.{dec_lt}
 use lib.Bits.{bit_or, or_shifted_r}
 use lib.Pow.{pow-lt}
 use Rattle.model.specs.Limits.{semaphores}
 use Rattle.model.specs.Marks.{every_number}
-use Rattle.service.proofs.events.set_all.every_number.Statement.{statement}
-use Rattle.service.proofs.events.set_all.every_number.Tie as tie
+use Rattle.service.proofs.events.set_all.every_number.Goals as goal
 
+-- `every_number` meets its contract: the numbers below the count are the power of two less one.
 power : (n : ℕ) → every_number n + 1 ≡ 2 ^ n
 unfolding every_number
 power zero = refl
@@ -28,17 +27,11 @@ few count h = go (dec_lt count semaphores)
 shifted : (count : ℕ) → count ≤ semaphores → 1 * 2 ^ count % 65536 ≡ every_number count + 1
 shifted count h = let p : 2 ^ count < 65536 = omega (arith, few count h) in rw one-mul (mod-eq_of_lt p ∙ omega (arith, power count))
 
-shl-result : tie.Need-overflow-shl-result
-shl-result c = search rules
+pub overflow_sub-result : goal.overflow_sub-result
+overflow_sub-result c = omega (arith, shifted c.args.count c.requires)
 
-sub-result : tie.Need-overflow-sub-result
-sub-result c = omega (arith, shifted c.args.count c.requires)
+pub overflow_cast-result-2 : goal.overflow_cast-result-2
+overflow_cast-result-2 c = record { fits = omega (arith, shifted c.args.count c.requires, power c.args.count, few c.args.count c.requires) }
 
-cast-result : tie.Need-overflow-cast-result
-cast-result c = record { fits = omega (arith, shifted c.args.count c.requires, power c.args.count, few c.args.count c.requires) }
-
-returns : tie.Need-returns
+pub returns : goal.returns
 returns c = omega (arith, shifted c.args.count c.requires)
-
-pub every-number-spec : {M : Type 1} → statement M
-every-number-spec = tie.close (tie.spec shl-result sub-result cast-result returns)

@@ -1,4 +1,3 @@
--- `service::events::act_as::act_as` meets its contract.
 use Rattle.std.proofs.Common.{◌≡◌, ℕ, List, [], pos, sym, ap, ◌∙◌, ap₂, rules}
 use Rattle.model.specs.declared.Caller.{Caller}
 use Rattle.model.specs.declared.Told.{Told}
@@ -11,9 +10,10 @@ use Rattle.host.proofs.CallerRows.{caller_held}
 use Rattle.wakings.specs.Wakings.{Place, list_of}
 use Rattle.service.specs.After.{telling, after_of}
 use Rattle.service.proofs.EventLaws.{held_seated, refused_after, goes_on}
-use Rattle.service.proofs.events.act_as.act_as.Statement.{statement}
-use Rattle.service.proofs.events.act_as.act_as.Tie as tie
+use Rattle.service.proofs.events.act_as.act_as.Goals as goal
+use Rattle.service.proofs.events.act_as.act_as.Goals.{After-check_caller-code, Start}
 
+-- `service::events::act_as::act_as` meets its contract.
 -- once the caller is a process awake, it has the two numbers, and all else stays
 acted : (x : Host) → Held x → (p user group : ℕ) → check_caller (state_in x) p ≡ 0 → {r : Row} {l : List Place} {told : Told} → r ≡ with_caller_at x.row p (record { user = user; group = group })
     → l ≡ list_of [] → told ≡ telling (pos 0) 0 0 0
@@ -27,53 +27,26 @@ acted x k p user group z {r} {l} {told} er el et =
     ∙ ap after_of (goes_on (state_in x) _ z)
 
 -- the host that is lent
-abbrev x : tie.Start → Host
+abbrev x : Start → Host
 x s = host_in s.args.host.now s.args.adjustments.now
 
-abbrev start : tie.After-check-caller → tie.Start
+abbrev start : After-check_caller-code → Start
 start c = c.before.before.before.before
 
 -- the code of the checks, and what they leave
-code : (c : tie.After-check-caller) → let s = start c in c.check-caller.result ≡ check_caller (state_in (x s)) s.args.process
-code c = c.check-caller.ensures (start c).args.adjustments.now
+code : (c : After-check_caller-code) → let s = start c in c.check_caller-code.result ≡ check_caller (state_in (x s)) s.args.process
+code c = c.check_caller-code.ensures (start c).args.adjustments.now
 
-clear-requires : tie.Need-clear-requires
-clear-requires c κs = search rules
+pub check_caller-code-requires : goal.check_caller-code-requires
+check_caller-code-requires c = held_seated (x (goal.at.check_caller-code-requires c).Start) c.requires
 
-check-caller-requires : tie.Need-check-caller-requires
-check-caller-requires c κs = let s = c.before.before.before in held_seated (x s) s.requires
-
-quiet-requires : tie.Need-quiet-requires
-quiet-requires c κs = search rules
-
-returns : tie.Need-returns
+pub returns-then-code-ne0 : goal.returns-then-code-ne0
 unfolding do_act_as
+returns-then-code-ne0 c =
+    let s = start (goal.at.returns-then-code-ne0 c).After-check_caller-code in
+    refused_after (x s) s.pre _ (code (goal.at.returns-then-code-ne0 c).After-check_caller-code) c.if-code-ne0.true c.clear.ensures c.quiet.ensures
+
+pub returns : goal.returns
 returns c =
-    let k = c.before.before in
-    let s = start k in
-    refused_after (x s) s.pre _ (code k) c.before.if1.true k.before.before.clear.ensures c.quiet.ensures
-
-put-caller-requires : tie.Need-put-caller-requires
-put-caller-requires c κs = search rules
-
-quiet-requires-2 : tie.Need-quiet-requires-2
-quiet-requires-2 c κs = search rules
-
-returns-2 : tie.Need-returns-2
-returns-2 c =
-    let b = c.before in
-    let k = b.before.before.before in
-    let s = start k in
-    acted (x s) s.pre _ _ _ (sym (code k) ∙ b.before.before.if1.false) b.put-caller.ensures k.before.before.clear.ensures c.quiet2.ensures
-
-pub act-as-spec : {M : Type 1} → statement M
-act-as-spec =
-    tie.close
-    (tie.spec
-    clear-requires
-    check-caller-requires
-    quiet-requires
-    returns
-    put-caller-requires
-    quiet-requires-2
-    returns-2)
+    let s = start (goal.at.returns c).After-check_caller-code in
+    acted (x s) s.pre _ _ _ (sym (code (goal.at.returns c).After-check_caller-code) ∙ c.if-code-ne0.false) c.put_caller.ensures c.clear.ensures c.quiet-2.ensures

@@ -1,0 +1,48 @@
+use Rattle.std.proofs.Common.{◌≡◌, length, sym, ap, ◌∙◌, subst, rules}
+use Rattle.model.specs.Checks.{check_process}
+use Rattle.model.specs.Events.{do_exit}
+use Rattle.model.specs.Invariant.{Good}
+use Rattle.host.specs.Parts.{Row}
+use Rattle.host.specs.Holding.{Host, host_in, table_in}
+use Rattle.service_waking.specs.Lent.{Lent, Ready, treated_from}
+use Rattle.service.proofs.EventLaws.{held_invariant, held_seated, refused_after}
+use Rattle.service.proofs.events.exit.exit.Proof.Laws.{exit_process, exit_lent, exit_touched, exit_ready, exit_after, touched_size}
+use Rattle.service.proofs.events.exit.exit.Goals as goal
+use Rattle.service.proofs.events.exit.exit.Goals.{Else-code-ne0, Start}
+
+-- `service::events::exit::exit` meets its contract.
+mod Laws
+
+-- the host that is lent
+abbrev x : Start → Host
+x s = host_in s.args.host.now s.args.adjustments.now
+
+none : (c : Else-code-ne0) → check_process c.args.process ≡ 0
+none c = sym c.check_process-code.ensures ∙ c.if-code-ne0.false
+
+pub returns-then-code-ne0 : goal.returns-then-code-ne0
+unfolding do_exit
+returns-then-code-ne0 c = refused_after (x (goal.at.returns-then-code-ne0 c).Start) c.requires _ c.check_process-code.ensures c.if-code-ne0.true c.clear.ensures c.quiet.ensures
+
+pub leave-requires : goal.leave-requires
+leave-requires c = held_seated (x (goal.at.leave-requires c).Start) c.requires
+
+pub undo_all-touched-requires : goal.undo_all-touched-requires
+undo_all-touched-requires c = (exit_process _ (none (goal.at.undo_all-touched-requires c).Else-code-ne0), subst (λ (r : Row). Good (table_in (record { row = r; adjustments = c.args.adjustments.now }))) (sym c.leave.ensures.host_after) (held_invariant (x (goal.at.undo_all-touched-requires c).Start) c.requires).good)
+
+pub wake_all-requires : goal.wake_all-requires
+wake_all-requires c =
+    let z = none (goal.at.wake_all-requires c).Else-code-ne0 in
+    let gone = c.leave.ensures.host_after in
+    let undone = c.undo_all-touched.ensures in
+    let lent = exit_lent (x (goal.at.wake_all-requires c).Start) c.requires _ z gone undone.0 c.clear.ensures in
+    (subst Ready (sym lent) (exit_ready (x (goal.at.wake_all-requires c).Start) c.requires _ z), ap length (exit_touched (x (goal.at.wake_all-requires c).Start) c.requires _ z gone undone.1) ∙ touched_size _ _)
+
+pub returns : goal.returns
+returns c =
+    let z = none (goal.at.returns c).After-check_process-code in
+    let gone = c.leave.ensures.host_after in
+    let undone = c.undo_all-touched.ensures in
+    let lent = exit_lent (x (goal.at.returns c).Start) c.requires _ z gone undone.0 c.clear.ensures in
+    exit_after (x (goal.at.returns c).Start) c.requires _ z c.args.engine (exit_touched (x (goal.at.returns c).Start) c.requires _ z gone undone.1)
+    (c.wake_all.ensures ∙ ap (λ (l : Lent). treated_from c.args.engine 0 c.undo_all-touched.result l 0) lent) c.told.ensures
