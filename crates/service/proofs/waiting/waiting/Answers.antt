@@ -18,9 +18,6 @@ loop-n-init c = walked_none (host (goal.at.loop-n-init c).Start) c.requires.held
 pub judge_one-stop-requires : goal.judge_one-stop-requires
 judge_one-stop-requires c = (one_of (goal.at.judge_one-stop-requires c).In-loop-n, walked_not (host (goal.at.judge_one-stop-requires c).Start) c.requires.held c.args.slot c.loop-n.invariant)
 
-pub bit_of-requires : goal.bit_of-requires
-bit_of-requires c = one_of (goal.at.bit_of-requires c).In-loop-n
-
 pub loop-n-preserved : goal.loop-n-preserved
 loop-n-preserved c =
     let l = c.loop-n-test.true in

@@ -1,14 +1,14 @@
+mod Laws
 use Rattle.std.proofs.Common.{◌≡◌, sym, ◌∙◌, rules}
 use Rattle.model.specs.Checks.{check_clock}
 use Rattle.model.specs.Events.{do_clock}
 use Rattle.host.specs.Holding.{Host, host_in, state_in}
 use Rattle.service.proofs.EventLaws.{refused_after}
-use Rattle.service.proofs.events.clock.clock.Proof.Laws.{timed_row, expired_after}
+use Rattle.service.proofs.events.clock.clock.Answers.Laws.{timed_row, expired_after}
 use Rattle.service.proofs.events.clock.clock.Goals as goal
 use Rattle.service.proofs.events.clock.clock.Goals.{After-check_clock-code, After-put_time, Start}
 
 -- `service::events::clock::clock` meets its contract.
-mod Laws
 
 -- the host that is lent
 abbrev x : Start → Host

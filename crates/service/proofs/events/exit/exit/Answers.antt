@@ -1,3 +1,4 @@
+mod Laws
 use Rattle.std.proofs.Common.{◌≡◌, length, sym, ap, ◌∙◌, subst, rules}
 use Rattle.model.specs.Checks.{check_process}
 use Rattle.model.specs.Events.{do_exit}
@@ -6,12 +7,11 @@ use Rattle.host.specs.Parts.{Row}
 use Rattle.host.specs.Holding.{Host, host_in, table_in}
 use Rattle.service_waking.specs.Lent.{Lent, Ready, treated_from}
 use Rattle.service.proofs.EventLaws.{held_invariant, held_seated, refused_after}
-use Rattle.service.proofs.events.exit.exit.Proof.Laws.{exit_process, exit_lent, exit_touched, exit_ready, exit_after, touched_size}
+use Rattle.service.proofs.events.exit.exit.Answers.Laws.{exit_process, exit_lent, exit_touched, exit_ready, exit_after, touched_size}
 use Rattle.service.proofs.events.exit.exit.Goals as goal
 use Rattle.service.proofs.events.exit.exit.Goals.{Else-code-ne0, Start}
 
 -- `service::events::exit::exit` meets its contract.
-mod Laws
 
 -- the host that is lent
 abbrev x : Start → Host

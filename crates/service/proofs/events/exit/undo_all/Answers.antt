@@ -7,9 +7,6 @@ use Rattle.service.proofs.events.exit.undo_all.Goals as goal
 pub loop-slot-init : goal.loop-slot-init
 loop-slot-init c = undoing_first _ c.requires.good _ _ refl
 
-pub undo_slot-mask-requires : goal.undo_slot-mask-requires
-undo_slot-mask-requires c = (c.loop-slot-test.true, (c.requires.process, c.loop-slot.invariant.tables.good.small))
-
 pub loop-slot-preserved : goal.loop-slot-preserved
 loop-slot-preserved c = undoing_more _ c.requires.good _ c.requires.process c.loop-slot.invariant _ _ c.loop-slot-test.true c.undo_slot-mask.ensures.adjustments_after c.undo_slot-mask.ensures.value
 

@@ -1,3 +1,4 @@
+mod Laws
 use Rattle.std.proofs.Common.{◌≡◌, ℕ, ◌<◌, cond, eqb, length, sym, refl, ap, ◌∙◌, arith, to_z-of_z, rules}
 use Rattle.model.specs.Limits.{semaphores}
 use Rattle.model.specs.State.{Sleeper}
@@ -17,12 +18,11 @@ use Rattle.service_table.proofs.WrittenLaws.{sized_good, copies_applied}
 use Rattle.service_waking.specs.Lent.{JudgedAs, treated}
 use Rattle.service_waking.proofs.LookLaws.{values_in_lem, undo_read, judged_as}
 use Rattle.service.proofs.EventLaws.{held_invariant, held_row, held_seated, refused_after, begun, begun_ready}
-use Rattle.service.proofs.events.operate.operate.Proof.Laws.{call_process, call_numbered, call_room, call_awake, call_few, done_lent, done_ready, done_after, again_after, range_after, would_sleep_after}
+use Rattle.service.proofs.events.operate.operate.Answers.Laws.{call_process, call_numbered, call_room, call_awake, call_few, done_lent, done_ready, done_after, again_after, range_after, would_sleep_after}
 use Rattle.service.proofs.events.operate.operate.Goals as goal
 use Rattle.service.proofs.events.operate.operate.Goals.{After-adjustments_of-undo, After-apply, After-check_operate-checked, After-clear, After-judge-verdict, After-slot_of-slot, After-values_of-before, After-would_sleep-arg-1, Else-checked-ne0, Start}
 
 -- `service::events::operate::operate` meets its contract.
-mod Laws
 
 -- the host that is lent
 abbrev x : Start → Host

@@ -2,11 +2,6 @@ use Rattle.std.proofs.Common.{sym, refl, ◌∙◌, rules}
 use Rattle.model.specs.Judge.{code_of}
 use Rattle.service.proofs.events.operate.would_sleep.Goals as goal
 
-pub returns-then-at_once : goal.returns-then-at_once
-returns-then-at_once c =
-    let both = rw (sym c.at_once.ensures ∙ c.if-at_once.true) (refl, refl) in
-    record { host_after = both.0; value = both.1 }
-
 pub returns : goal.returns
 unfolding code_of
 returns c =

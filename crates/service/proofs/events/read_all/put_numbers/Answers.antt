@@ -6,15 +6,6 @@ use Rattle.model.specs.WholeSet.{reads_from}
 use Rattle.service.proofs.ReadLaws.{numbers_left, numbers_all, numbers_more, numbers_end}
 use Rattle.service.proofs.events.read_all.put_numbers.Goals as goal
 
-pub loop-n-init : goal.loop-n-init
-loop-n-init c = (search rules, search rules, numbers_all _ _ _ _ _)
-
-pub bounds-all-at-in-loop-n : goal.bounds-all-at-in-loop-n
-bounds-all-at-in-loop-n c = simp length-set (omega arith)
-
-pub bounds-all-at-in-loop-n-2 : goal.bounds-all-at-in-loop-n-2
-bounds-all-at-in-loop-n-2 c = simp length-set (omega arith)
-
 pub loop-n-preserved : goal.loop-n-preserved
 loop-n-preserved c = (search rules, search rules, numbers_more _ _ _ c.args.count c.loop-n.n c.loop-n.all (omega arith) ∙ c.loop-n.invariant.2)
 

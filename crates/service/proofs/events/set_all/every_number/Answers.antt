@@ -27,11 +27,5 @@ few count h = go (dec_lt count semaphores)
 shifted : (count : ℕ) → count ≤ semaphores → 1 * 2 ^ count % 65536 ≡ every_number count + 1
 shifted count h = let p : 2 ^ count < 65536 = omega (arith, few count h) in rw one-mul (mod-eq_of_lt p ∙ omega (arith, power count))
 
-pub overflow_sub-result : goal.overflow_sub-result
-overflow_sub-result c = omega (arith, shifted c.args.count c.requires)
-
-pub overflow_cast-result-2 : goal.overflow_cast-result-2
-overflow_cast-result-2 c = record { fits = omega (arith, shifted c.args.count c.requires, power c.args.count, few c.args.count c.requires) }
-
 pub returns : goal.returns
 returns c = omega (arith, shifted c.args.count c.requires)

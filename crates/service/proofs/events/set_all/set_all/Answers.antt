@@ -1,3 +1,4 @@
+mod Laws
 use Rattle.std.proofs.Common.{◌≡◌, ◌<◌, get_or, sym, ◌∙◌, arith, to_z-of_z, rules}
 use Rattle.model.specs.State.{no_set}
 use Rattle.model.specs.Checks.{slot_of, check_set_all}
@@ -8,12 +9,11 @@ use Rattle.wakings.specs.Wakings.{places_in}
 use Rattle.service_checks.proofs.FoundSets.{slot_within, set_found}
 use Rattle.service_waking.specs.Lent.{unwoken, treated}
 use Rattle.service.proofs.EventLaws.{held_seated, refused_after, begun, begun_ready}
-use Rattle.service.proofs.events.set_all.set_all.Proof.Laws.{set_table, all_few, all_lent, all_ready, all_after}
+use Rattle.service.proofs.events.set_all.set_all.Answers.Laws.{set_table, all_few, all_lent, all_ready, all_after}
 use Rattle.service.proofs.events.set_all.set_all.Goals as goal
 use Rattle.service.proofs.events.set_all.set_all.Goals.{After-assign_all, After-check_set_all-code, After-every_number-touched, After-nobody, After-set_at-set, After-slot_of-slot, Else-code-ne0, Start}
 
 -- `service::events::set_all::set_all` meets its contract.
-mod Laws
 
 -- the host that is lent
 abbrev x : Start → Host

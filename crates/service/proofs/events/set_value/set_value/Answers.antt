@@ -1,3 +1,4 @@
+mod Laws
 use Rattle.std.proofs.Common.{◌≡◌, ◌<◌, nat_abs, sym, ap, ◌∙◌, arith, to_z-of_z, rules}
 use Rattle.model.specs.Limits.{semaphores}
 use Rattle.model.specs.Checks.{slot_of, check_set_value}
@@ -8,12 +9,11 @@ use Rattle.service_checks.proofs.FoundSets.{slot_within}
 use Rattle.service_waking.specs.Lent.{treated}
 use Rattle.service_waking.proofs.ByProcess.{shifted}
 use Rattle.service.proofs.EventLaws.{held_seated, refused_after, begun, begun_ready}
-use Rattle.service.proofs.events.set_value.set_value.Proof.Laws.{value_kept, set_number, set_lent, set_ready, set_after}
+use Rattle.service.proofs.events.set_value.set_value.Answers.Laws.{value_kept, set_number, set_lent, set_ready, set_after}
 use Rattle.service.proofs.events.set_value.set_value.Goals as goal
 use Rattle.service.proofs.events.set_value.set_value.Goals.{After-check_set_value-code, After-slot_of-slot, After-value_of, Else-code-ne0, Start}
 
 -- `service::events::set_value::set_value` meets its contract.
-mod Laws
 
 -- the host that is lent
 abbrev x : Start → Host

@@ -1,15 +1,15 @@
+mod Laws
 use Rattle.std.proofs.Common.{◌≡◌, sym, ◌∙◌, rules}
 use borrow.Author.Tests.{not-true, not-false}
 use Rattle.model.specs.Checks.{check_process}
 use Rattle.model.specs.Events.{do_signal}
 use Rattle.host.specs.Holding.{Host, host_in}
 use Rattle.service.proofs.EventLaws.{held_seated, refused_after}
-use Rattle.service.proofs.events.signal.signal.Proof.Laws.{signal_awake, signal_asleep}
+use Rattle.service.proofs.events.signal.signal.Answers.Laws.{signal_awake, signal_asleep}
 use Rattle.service.proofs.events.signal.signal.Goals as goal
 use Rattle.service.proofs.events.signal.signal.Goals.{Else-code-ne0, Start}
 
 -- `service::events::signal::signal` meets its contract.
-mod Laws
 
 -- the host that is lent
 abbrev x : Start → Host
