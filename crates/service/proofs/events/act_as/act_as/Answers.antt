@@ -11,9 +11,7 @@ use Rattle.wakings.specs.Wakings.{Place, list_of}
 use Rattle.service.specs.After.{telling, after_of}
 use Rattle.service.proofs.EventLaws.{held_seated, refused_after, goes_on}
 use Rattle.service.proofs.events.act_as.act_as.Goals as goal
-use Rattle.service.proofs.events.act_as.act_as.Goals.{After-check_caller-code, Start}
 
--- `service::events::act_as::act_as` meets its contract.
 -- once the caller is a process awake, it has the two numbers, and all else stays
 acted : (x : Host) → Held x → (p user group : ℕ) → check_caller (state_in x) p ≡ 0 → {r : Row} {l : List Place} {told : Told} → r ≡ with_caller_at x.row p (record { user = user; group = group })
     → l ≡ list_of [] → told ≡ telling (pos 0) 0 0 0
@@ -26,27 +24,15 @@ acted x k p user group z {r} {l} {told} er el et =
     (ap (λ (a : Row). record { row = a; adjustments = x.adjustments }) er ∙ caller_held x k.holds p (caller_passes (state_in x) p z).process c)
     ∙ ap after_of (goes_on (state_in x) _ z)
 
--- the host that is lent
-abbrev x : Start → Host
-x s = host_in s.args.host.now s.args.adjustments.now
-
-abbrev start : After-check_caller-code → Start
-start c = c.before.before.before.before
-
--- the code of the checks, and what they leave
-code : (c : After-check_caller-code) → let s = start c in c.check_caller-code.result ≡ check_caller (state_in (x s)) s.args.process
-code c = c.check_caller-code.ensures (start c).args.adjustments.now
-
 pub check_caller-code-requires : goal.check_caller-code-requires
-check_caller-code-requires c = held_seated (x (goal.at.check_caller-code-requires c).Start) c.requires
+check_caller-code-requires c = held_seated (host_in c.args.host.now c.args.adjustments.now) c.requires
 
 pub returns-then-code-ne0 : goal.returns-then-code-ne0
 unfolding do_act_as
 returns-then-code-ne0 c =
-    let s = start (goal.at.returns-then-code-ne0 c).After-check_caller-code in
-    refused_after (x s) s.pre _ (code (goal.at.returns-then-code-ne0 c).After-check_caller-code) c.if-code-ne0.true c.clear.ensures c.quiet.ensures
+    refused_after (host_in c.args.host.now c.args.adjustments.now) c.requires _ (c.check_caller-code.ensures c.args.adjustments.now) c.if-code-ne0.true c.clear.ensures c.quiet.ensures
 
 pub returns : goal.returns
 returns c =
-    let s = start (goal.at.returns c).After-check_caller-code in
-    acted (x s) s.pre _ _ _ (sym (code (goal.at.returns c).After-check_caller-code) ∙ c.if-code-ne0.false) c.put_caller.ensures c.clear.ensures c.quiet-2.ensures
+    acted (host_in c.args.host.now c.args.adjustments.now) c.requires _ _ _ (sym (c.check_caller-code.ensures c.args.adjustments.now) ∙ c.if-code-ne0.false)
+    c.put_caller.ensures c.clear.ensures c.quiet-2.ensures

@@ -9,40 +9,45 @@ use Rattle.service_waking.specs.Lent.{Lent, Ready, treated_from}
 use Rattle.service.proofs.EventLaws.{held_invariant, held_seated, refused_after}
 use Rattle.service.proofs.events.exit.exit.Answers.Laws.{exit_process, exit_lent, exit_touched, exit_ready, exit_after, touched_size}
 use Rattle.service.proofs.events.exit.exit.Goals as goal
-use Rattle.service.proofs.events.exit.exit.Goals.{Else-code-ne0, Start}
+use Rattle.service.proofs.events.exit.exit.Goals.{Else-code-ne0}
 
--- `service::events::exit::exit` meets its contract.
-
--- the host that is lent
-abbrev x : Start → Host
-x s = host_in s.args.host.now s.args.adjustments.now
-
+-- it is a process
 none : (c : Else-code-ne0) → check_process c.args.process ≡ 0
 none c = sym c.check_process-code.ensures ∙ c.if-code-ne0.false
 
 pub returns-then-code-ne0 : goal.returns-then-code-ne0
 unfolding do_exit
-returns-then-code-ne0 c = refused_after (x (goal.at.returns-then-code-ne0 c).Start) c.requires _ c.check_process-code.ensures c.if-code-ne0.true c.clear.ensures c.quiet.ensures
+returns-then-code-ne0 c = refused_after (host_in c.args.host.now c.args.adjustments.now) c.requires _ c.check_process-code.ensures c.if-code-ne0.true c.clear.ensures c.quiet.ensures
 
 pub leave-requires : goal.leave-requires
-leave-requires c = held_seated (x (goal.at.leave-requires c).Start) c.requires
+leave-requires c = held_seated (host_in c.args.host.now c.args.adjustments.now) c.requires
 
 pub undo_all-touched-requires : goal.undo_all-touched-requires
-undo_all-touched-requires c = (exit_process _ (none (goal.at.undo_all-touched-requires c).Else-code-ne0), subst (λ (r : Row). Good (table_in (record { row = r; adjustments = c.args.adjustments.now }))) (sym c.leave.ensures.host_after) (held_invariant (x (goal.at.undo_all-touched-requires c).Start) c.requires).good)
+undo_all-touched-requires c =
+    record {
+      process = exit_process _ (none (goal.at.undo_all-touched-requires c).Else-code-ne0);
+      good = subst (λ (r : Row). Good (table_in (record { row = r; adjustments = c.args.adjustments.now }))) (sym c.leave.ensures.host_after)
+          (held_invariant (host_in c.args.host.now c.args.adjustments.now) c.requires).good;
+    }
 
 pub wake_all-requires : goal.wake_all-requires
 wake_all-requires c =
+    let x = host_in c.args.host.now c.args.adjustments.now in
     let z = none (goal.at.wake_all-requires c).Else-code-ne0 in
     let gone = c.leave.ensures.host_after in
     let undone = c.undo_all-touched.ensures in
-    let lent = exit_lent (x (goal.at.wake_all-requires c).Start) c.requires _ z gone undone.0 c.clear.ensures in
-    (subst Ready (sym lent) (exit_ready (x (goal.at.wake_all-requires c).Start) c.requires _ z), ap length (exit_touched (x (goal.at.wake_all-requires c).Start) c.requires _ z gone undone.1) ∙ touched_size _ _)
+    let lent = exit_lent x c.requires _ z gone undone.adjustments_after c.clear.ensures in
+    record {
+      ready = subst Ready (sym lent) (exit_ready x c.requires _ z);
+      touched_len = ap length (exit_touched x c.requires _ z gone undone.value) ∙ touched_size _ _;
+    }
 
 pub returns : goal.returns
 returns c =
-    let z = none (goal.at.returns c).After-check_process-code in
+    let x = host_in c.args.host.now c.args.adjustments.now in
+    let z = none (goal.at.returns c).Else-code-ne0 in
     let gone = c.leave.ensures.host_after in
     let undone = c.undo_all-touched.ensures in
-    let lent = exit_lent (x (goal.at.returns c).Start) c.requires _ z gone undone.0 c.clear.ensures in
-    exit_after (x (goal.at.returns c).Start) c.requires _ z c.args.engine (exit_touched (x (goal.at.returns c).Start) c.requires _ z gone undone.1)
+    let lent = exit_lent x c.requires _ z gone undone.adjustments_after c.clear.ensures in
+    exit_after x c.requires _ z c.args.engine (exit_touched x c.requires _ z gone undone.value)
     (c.wake_all.ensures ∙ ap (λ (l : Lent). treated_from c.args.engine 0 c.undo_all-touched.result l 0) lent) c.told.ensures

@@ -5,33 +5,29 @@ use Rattle.host.specs.Holding.{Host, host_in, state_in}
 use Rattle.service.proofs.EventLaws.{held_seated}
 use Rattle.service.proofs.QueryLaws.{query_refused, query_small, queried}
 use Rattle.service.proofs.events.query.query.Goals as goal
-use Rattle.service.proofs.events.query.query.Goals.{After-check_query-code, After-slot_of-slot, Start}
+use Rattle.service.proofs.events.query.query.Goals.{After-check_query-code, After-slot_of-slot}
 
--- `service::events::query::query` meets its contract.
-abbrev host : Start → Host
-host s = host_in s.args.host.now s.args.adjustments.now
-
--- the code, and the slot
-code_is : (c : After-check_query-code) → c.check_query-code.result ≡ check_query (state_in (host s)) c.args.process c.args.identifier c.args.number
+-- the code
+code_is : (c : After-check_query-code) → c.check_query-code.result ≡ check_query (state_in (host_in c.args.host.now c.args.adjustments.now)) c.args.process c.args.identifier c.args.number
 code_is c = rw (to_z-of_z c.ranges.identifier) at (c.check_query-code.ensures c.args.adjustments.now)
 
-abbrev of-slot : After-slot_of-slot → Start
-of-slot c = c.before.before.before
+-- the slot
+slot_is : (c : After-slot_of-slot) → c.slot_of-slot.result ≡ slot_of c.args.identifier
+slot_is c = rw (to_z-of_z c.ranges.identifier) at c.slot_of-slot.ensures
 
-slot_is : (c : After-slot_of-slot) → c.slot_of-slot.result ≡ slot_of (of-slot c).args.identifier
-slot_is c = rw (to_z-of_z (of-slot c).ranges.identifier) at c.slot_of-slot.ensures
+passes : (c : After-slot_of-slot) → check_query (state_in (host_in c.args.host.now c.args.adjustments.now)) c.args.process c.args.identifier c.args.number ≡ 0
+passes c = sym (rw (to_z-of_z c.ranges.identifier) at (c.check_query-code.ensures c.args.adjustments.now)) ∙ c.if-code-ne0.false
 
-passes : (c : After-slot_of-slot) → let s = of-slot c in check_query (state_in (host s)) s.args.process s.args.identifier s.args.number ≡ 0
-passes c = sym (code_is c.UP-After-check_query-code) ∙ c.if-code-ne0.false
-
-small : (c : After-slot_of-slot) → (c.slot_of-slot.result < slots) × ((of-slot c).args.number < semaphores)
-small c = let s = of-slot c in query_small (host s) s.pre s.args.process s.args.identifier s.args.number (passes c) (slot_is c)
+small : (c : After-slot_of-slot) → (c.slot_of-slot.result < slots) × (c.args.number < semaphores)
+small c = query_small (host_in c.args.host.now c.args.adjustments.now) c.requires c.args.process c.args.identifier c.args.number (passes c) (slot_is c)
 
 pub check_query-code-requires : goal.check_query-code-requires
-check_query-code-requires c = held_seated (host (goal.at.check_query-code-requires c).Start) c.requires
+check_query-code-requires c = held_seated (host_in c.args.host.now c.args.adjustments.now) c.requires
 
 pub returns-then-code-ne0 : goal.returns-then-code-ne0
-returns-then-code-ne0 c = c.refused.ensures ∙ query_refused (host (goal.at.returns-then-code-ne0 c).Start) c.requires c.args.process c.args.identifier c.args.number (code_is (goal.at.returns-then-code-ne0 c).After-check_query-code) c.if-code-ne0.true
+returns-then-code-ne0 c =
+    c.refused.ensures
+    ∙ query_refused (host_in c.args.host.now c.args.adjustments.now) c.requires c.args.process c.args.identifier c.args.number (code_is (goal.at.returns-then-code-ne0 c).After-check_query-code) c.if-code-ne0.true
 
 pub overflow_mul-at : goal.overflow_mul-at
 overflow_mul-at c = omega (arith, (small (goal.at.overflow_mul-at c).After-slot_of-slot).0)
@@ -39,8 +35,8 @@ overflow_mul-at c = omega (arith, (small (goal.at.overflow_mul-at c).After-slot_
 pub overflow_add-at : goal.overflow_add-at
 overflow_add-at c = omega (arith, (small (goal.at.overflow_add-at c).After-slot_of-slot).0)
 
-pub waiting-waiters-requires : goal.waiting-waiters-requires
-waiting-waiters-requires c = ((of-slot (goal.at.waiting-waiters-requires c).After-slot_of-slot).requires, (small (goal.at.waiting-waiters-requires c).After-slot_of-slot).0)
+pub waiting-waiters-requires-clause-slot : goal.waiting-waiters-requires-clause-slot
+waiting-waiters-requires-clause-slot c = (small (goal.at.waiting-waiters-requires-clause-slot c).After-slot_of-slot).0
 
 pub bounds-waiters-n : goal.bounds-waiters-n
 bounds-waiters-n c = (small (goal.at.bounds-waiters-n c).After-slot_of-slot).1
@@ -50,5 +46,6 @@ bounds-waiters-n-2 c = (small (goal.at.bounds-waiters-n-2 c).After-slot_of-slot)
 
 pub returns : goal.returns
 returns c =
-    let s = of-slot (goal.at.returns c).After-slot_of-slot in
-    queried (host s) s.pre s.args.process s.args.identifier s.args.number (passes (goal.at.returns c).After-slot_of-slot) (slot_is (goal.at.returns c).After-slot_of-slot) c.waiting-waiters.ensures refl refl c.value_at.ensures c.last_at.ensures
+    let o = (goal.at.returns c).After-slot_of-slot in
+    queried (host_in c.args.host.now c.args.adjustments.now) c.requires c.args.process c.args.identifier c.args.number (passes o) (slot_is o)
+    c.waiting-waiters.ensures refl refl c.value_at.ensures c.last_at.ensures
