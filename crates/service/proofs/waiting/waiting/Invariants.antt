@@ -1,8 +1,7 @@
-use Rattle.std.proofs.Common.{◌+◌, ◌-◌, refl, ⊎_elim, arith, rules}
+use Rattle.std.proofs.Common.{◌-◌}
 use Rattle.model.specs.Limits.{processes}
-use Rattle.host.specs.Holding.{Host, host_in}
-use Rattle.service_table.specs.Numbered.{IsProcess}
-use Rattle.service.proofs.WaitingLaws.{Walked, walked_none, walked_by, walked_more, walked_not, walked_all, within_again}
+use Rattle.host.specs.Holding.{host_in}
+use Rattle.service.proofs.WaitingLaws.{Walked}
 use Rattle.service.proofs.waiting.waiting.Given as goal
 
 -- `service::waiting::waiting` meets its contract. The loop's invariant is `Walked`.

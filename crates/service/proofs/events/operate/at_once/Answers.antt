@@ -8,4 +8,4 @@ returns-in-Endless c = search rules
 
 pub returns-in-Milliseconds : goal.returns-in-Milliseconds
 unfolding at_once
-returns-in-Milliseconds c = rw c.wait-1.given.1
+returns-in-Milliseconds c = search rules
