@@ -1,48 +1,47 @@
-use Rattle.std.proofs.Common.{◌≡◌, ◌+◌, ◌%◌, sym, ap, ◌∙◌, to_z-of_z, rules}
+use Rattle.std.proofs.Common.{◌≡◌, ◌+◌, ◌%◌, sym, ap, ◌∙◌, to_z-of_z}
 use Rattle.model.specs.declared.Set.{Set}
 use Rattle.model.specs.Checks.{slot_of, check_remove}
 use Rattle.model.specs.Events.{do_remove}
 use Rattle.host.specs.Parts.{row_in}
-use Rattle.host.specs.Holding.{Host, host_in, state_in, set_at}
+use Rattle.host.specs.Holding.{host_in, state_in, set_at}
 use Rattle.service_checks.proofs.FoundSets.{slot_within}
 use Rattle.service.proofs.EventLaws.{held_seated, refused_after}
 use Rattle.service.proofs.SlotLaws.{removed_row, removed}
 use Rattle.service.proofs.events.remove.remove.Goals as goal
-use Rattle.service.proofs.events.remove.remove.Goals.{After-check_remove-code, After-slot_of-slot, After-wrapping_add_u16, Else-code-ne0, Start}
+use Rattle.service.proofs.events.remove.remove.Goals.{After-check_remove-code, After-slot_of-slot, After-wrapping_add_u16, Else-code-ne0}
 
 -- `service::events::remove::remove` meets its contract.
--- the host that is lent
-abbrev x : Start → Host
-x s = host_in s.args.host.now s.args.adjustments.now
-
 -- the code of the checks, and what they leave
-code : (c : After-check_remove-code) → c.check_remove-code.result ≡ check_remove (state_in (x s)) c.args.process c.args.identifier
+code : (c : After-check_remove-code) → c.check_remove-code.result ≡ check_remove (state_in (host_in c.args.host.now c.args.adjustments.now)) c.args.process c.args.identifier
 code c = rw (to_z-of_z c.ranges.identifier) at (c.check_remove-code.ensures c.args.adjustments.now)
 
-none : (c : Else-code-ne0) → check_remove (state_in (x s)) c.args.process c.args.identifier ≡ 0
-none c = sym (code c.UP-After-check_remove-code) ∙ c.if-code-ne0.false
+none : (c : Else-code-ne0) → check_remove (state_in (host_in c.args.host.now c.args.adjustments.now)) c.args.process c.args.identifier ≡ 0
+none c = sym (rw (to_z-of_z c.ranges.identifier) at (c.check_remove-code.ensures c.args.adjustments.now)) ∙ c.if-code-ne0.false
 
 slot : (c : After-slot_of-slot) → c.slot_of-slot.result ≡ slot_of c.args.identifier
 slot c = rw (to_z-of_z c.ranges.identifier) at c.slot_of-slot.ensures
 
 generation : (c : After-wrapping_add_u16) → c.wrapping_add_u16.result ≡ ((set_at (row_in c.args.host.now) c.slot_of-slot.result).generation + 1) % 65536
-generation c = c.wrapping_add_u16.ensures ∙ ap (λ (u : Set). (u.generation + 1) % 65536) c.set_at-old.ensures
+generation c = c.wrapping_add_u16.ensures.value ∙ ap (λ (u : Set). (u.generation + 1) % 65536) c.set_at-old.ensures
 
 pub check_remove-code-requires : goal.check_remove-code-requires
-check_remove-code-requires c = held_seated (x (goal.at.check_remove-code-requires c).Start) c.requires
+check_remove-code-requires c = held_seated (host_in c.args.host.now c.args.adjustments.now) c.requires
 
 pub returns-then-code-ne0 : goal.returns-then-code-ne0
 unfolding do_remove
-returns-then-code-ne0 c = refused_after (x (goal.at.returns-then-code-ne0 c).Start) c.requires _ (code (goal.at.returns-then-code-ne0 c).After-check_remove-code) c.if-code-ne0.true c.clear.ensures c.quiet.ensures
+returns-then-code-ne0 c = refused_after (host_in c.args.host.now c.args.adjustments.now) c.requires _ (code (goal.at.returns-then-code-ne0 c).After-check_remove-code) c.if-code-ne0.true c.clear.ensures c.quiet.ensures
 
 pub clear_slot-requires : goal.clear_slot-requires
-clear_slot-requires c = rw (slot (goal.at.clear_slot-requires c).Else-code-ne0) (slot_within _)
+clear_slot-requires c = rw (slot (goal.at.clear_slot-requires c).After-slot_of-slot) (slot_within _)
 
-pub end_all-woken-requires : goal.end_all-woken-requires
-end_all-woken-requires c = (removed_row (x (goal.at.end_all-woken-requires c).Start) c.requires _ _ (none (goal.at.end_all-woken-requires c).After-check_remove-code) (slot (goal.at.end_all-woken-requires c).Else-code-ne0) (generation (goal.at.end_all-woken-requires c).After-wrapping_add_u16) c.put_set.ensures c.clear_slot.ensures, c.clear.ensures)
+pub end_all-woken-requires-clause-queue_held : goal.end_all-woken-requires-clause-queue_held
+end_all-woken-requires-clause-queue_held c =
+    let at = goal.at.end_all-woken-requires-clause-queue_held c in
+    removed_row (host_in c.args.host.now c.args.adjustments.now) c.requires _ _ (none at.Else-code-ne0) (slot at.After-slot_of-slot) (generation at.After-wrapping_add_u16) c.put_set.ensures c.clear_slot.ensures
 
 pub returns : goal.returns
 returns c =
+    let at = goal.at.returns c in
     let gone = c.end_all-woken.ensures in
-    removed (x (goal.at.returns c).Start) c.requires _ _ (none (goal.at.returns c).After-clear) (slot (goal.at.returns c).After-check_remove-code) (generation (goal.at.returns c).After-set_at-old) c.put_set.ensures c.clear_slot.ensures
-    gone.0 gone.1.0 gone.1.1 c.told.ensures
+    removed (host_in c.args.host.now c.args.adjustments.now) c.requires _ _ (none at.Else-code-ne0) (slot at.After-slot_of-slot) (generation at.After-wrapping_add_u16) c.put_set.ensures c.clear_slot.ensures
+    gone.host_after gone.wakings_after gone.value c.told.ensures

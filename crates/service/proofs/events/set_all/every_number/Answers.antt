@@ -1,4 +1,4 @@
-use Rattle.std.proofs.Common.{◌≡◌, ℕ, zero, suc, ◌+◌, ◌-◌, ◌*◌, ◌%◌, ◌^◌, ◌<◌, ◌≤◌, refl, ◌∙◌, mod-eq_of_lt, one-mul, pow-suc, arith, rules}
+use Rattle.std.proofs.Common.{◌≡◌, ℕ, zero, suc, ◌+◌, ◌*◌, ◌%◌, ◌^◌, ◌<◌, ◌≤◌, refl, ◌∙◌, mod-eq_of_lt, one-mul, pow-suc, arith}
 use native.Mathlib.Decide.{dec_lt}
 use lib.Bits.{bit_or, or_shifted_r}
 use lib.Pow.{pow-lt}

@@ -3,7 +3,7 @@ use Rattle.std.proofs.Common.{◌≡◌, ◌<◌, nat_abs, sym, ap, ◌∙◌, a
 use Rattle.model.specs.Limits.{semaphores}
 use Rattle.model.specs.Checks.{slot_of, check_set_value}
 use Rattle.model.specs.Events.{do_set_value}
-use Rattle.host.specs.Holding.{Host, host_in, state_in}
+use Rattle.host.specs.Holding.{host_in, state_in}
 use Rattle.judging.specs.Value.{value_of}
 use Rattle.service_checks.proofs.FoundSets.{slot_within}
 use Rattle.service_waking.specs.Lent.{treated}
@@ -11,20 +11,16 @@ use Rattle.service_waking.proofs.ByProcess.{shifted}
 use Rattle.service.proofs.EventLaws.{held_seated, refused_after, begun, begun_ready}
 use Rattle.service.proofs.events.set_value.set_value.Answers.Laws.{value_kept, set_number, set_lent, set_ready, set_after}
 use Rattle.service.proofs.events.set_value.set_value.Goals as goal
-use Rattle.service.proofs.events.set_value.set_value.Goals.{After-check_set_value-code, After-slot_of-slot, After-value_of, Else-code-ne0, Start}
+use Rattle.service.proofs.events.set_value.set_value.Goals.{After-check_set_value-code, After-slot_of-slot, After-value_of, Else-code-ne0}
 
 -- `service::events::set_value::set_value` meets its contract.
 
--- the host that is lent
-abbrev x : Start → Host
-x s = host_in s.args.host.now s.args.adjustments.now
-
 -- the code of the checks, and what they leave
-code : (c : After-check_set_value-code) → c.check_set_value-code.result ≡ check_set_value (state_in (x s)) c.args.process c.args.identifier c.args.number c.args.value
+code : (c : After-check_set_value-code) → c.check_set_value-code.result ≡ check_set_value (state_in (host_in c.args.host.now c.args.adjustments.now)) c.args.process c.args.identifier c.args.number c.args.value
 code c = rw (to_z-of_z c.ranges.identifier, to_z-of_z c.ranges.value) at (c.check_set_value-code.ensures c.args.adjustments.now)
 
-none : (c : Else-code-ne0) → check_set_value (state_in (x s)) c.args.process c.args.identifier c.args.number c.args.value ≡ 0
-none c = sym (code c.UP-After-check_set_value-code) ∙ c.if-code-ne0.false
+none : (c : Else-code-ne0) → check_set_value (state_in (host_in c.args.host.now c.args.adjustments.now)) c.args.process c.args.identifier c.args.number c.args.value ≡ 0
+none c = sym (rw (to_z-of_z c.ranges.identifier, to_z-of_z c.ranges.value) at (c.check_set_value-code.ensures c.args.adjustments.now)) ∙ c.if-code-ne0.false
 
 slot : (c : After-slot_of-slot) → c.slot_of-slot.result ≡ slot_of c.args.identifier
 slot c = rw (to_z-of_z c.ranges.identifier) at c.slot_of-slot.ensures
@@ -32,37 +28,44 @@ slot c = rw (to_z-of_z c.ranges.identifier) at c.slot_of-slot.ensures
 slot_is : (c : After-slot_of-slot) → c.slot_of-slot.result < 4
 slot_is c = rw (slot c) (slot_within c.args.identifier)
 
-number_is : (c : After-slot_of-slot) → c.args.number < semaphores
-number_is c = set_number (x s) c.requires _ _ _ _ (none c.UP-Else-code-ne0)
+number_is : (c : Else-code-ne0) → c.args.number < semaphores
+number_is c = set_number (host_in c.args.host.now c.args.adjustments.now) c.requires _ _ _ _ (none c)
 
+-- the value as the conversion reads it is the number that was asked for
 value : (c : After-value_of) → c.value_of.result ≡ nat_abs c.args.value
-value c = c.value_of.ensures ∙ ap value_of (to_z-of_z c.ranges.value) ∙ value_kept (state_in (x s)) _ _ _ _ (none c.UP-Else-code-ne0)
+value c = c.value_of.ensures ∙ ap value_of (to_z-of_z c.ranges.value) ∙ value_kept (state_in (host_in c.args.host.now c.args.adjustments.now)) _ _ _ _ (sym (rw (to_z-of_z c.ranges.identifier, to_z-of_z c.ranges.value) at (c.check_set_value-code.ensures c.args.adjustments.now)) ∙ c.if-code-ne0.false)
 
 pub check_set_value-code-requires : goal.check_set_value-code-requires
-check_set_value-code-requires c = held_seated (x (goal.at.check_set_value-code-requires c).Start) c.requires
+check_set_value-code-requires c = held_seated (host_in c.args.host.now c.args.adjustments.now) c.requires
 
 pub returns-then-code-ne0 : goal.returns-then-code-ne0
 unfolding do_set_value
-returns-then-code-ne0 c = refused_after (x (goal.at.returns-then-code-ne0 c).Start) c.requires _ (code (goal.at.returns-then-code-ne0 c).After-check_set_value-code) c.if-code-ne0.true c.clear.ensures c.quiet.ensures
+returns-then-code-ne0 c = refused_after (host_in c.args.host.now c.args.adjustments.now) c.requires _ (code (goal.at.returns-then-code-ne0 c).After-check_set_value-code) c.if-code-ne0.true c.clear.ensures c.quiet.ensures
 
 pub assign-requires : goal.assign-requires
-assign-requires c = (slot_is (goal.at.assign-requires c).After-slot_of-slot, number_is (goal.at.assign-requires c).After-slot_of-slot)
+assign-requires c = record { slot = slot_is (goal.at.assign-requires c).After-slot_of-slot; number = number_is (goal.at.assign-requires c).Else-code-ne0 }
 
 pub overflow_cast-touched : goal.overflow_cast-touched
-overflow_cast-touched c = omega (arith, number_is (goal.at.overflow_cast-touched c).After-slot_of-slot)
+overflow_cast-touched c = omega (arith, number_is (goal.at.overflow_cast-touched c).Else-code-ne0)
 
 pub overflow_shl-touched : goal.overflow_shl-touched
-overflow_shl-touched c = omega (arith, number_is (goal.at.overflow_shl-touched c).After-slot_of-slot)
+overflow_shl-touched c = omega (arith, number_is (goal.at.overflow_shl-touched c).Else-code-ne0)
 
 pub wake-requires : goal.wake-requires
 wake-requires c =
-    let z = none (goal.at.wake-requires c).Else-code-ne0 in
-    let lent = set_lent (x (goal.at.wake-requires c).Start) c.requires _ _ _ _ z (rw (slot (goal.at.wake-requires c).After-slot_of-slot, value (goal.at.wake-requires c).After-value_of) at c.assign.ensures) c.clear.ensures in
-    (slot_is (goal.at.wake-requires c).After-slot_of-slot, (begun_ready c.nobody.ensures lent (set_ready (x (goal.at.wake-requires c).Start) c.requires _ _ _ _ z), omega (arith, c.nobody.ensures.0)))
+    let at = goal.at.wake-requires c in
+    let z = none at.Else-code-ne0 in
+    let lent = set_lent (host_in c.args.host.now c.args.adjustments.now) c.requires _ _ _ _ z (rw (slot at.After-slot_of-slot, value at.After-value_of) at c.assign.ensures) c.clear.ensures in
+    record {
+      slot = slot_is at.After-slot_of-slot;
+      ready = begun_ready c.nobody.ensures lent (set_ready (host_in c.args.host.now c.args.adjustments.now) c.requires _ _ _ _ z);
+      looks_le_looks_max = omega (arith, c.nobody.ensures.0);
+    }
 
 pub returns : goal.returns
 returns c =
-    let z = none (goal.at.returns c).After-check_set_value-code in
-    let lent = set_lent (x (goal.at.returns c).Start) c.requires _ _ _ _ z (rw (slot (goal.at.returns c).Else-code-ne0, value (goal.at.returns c).After-assign-arg-2-1) at c.assign.ensures) c.clear.ensures in
-    set_after (x (goal.at.returns c).Start) c.requires _ _ _ _ z _ (slot (goal.at.returns c).Else-code-ne0) (shifted _ (number_is (goal.at.returns c).Else-code-ne0))
+    let at = goal.at.returns c in
+    let z = none at.Else-code-ne0 in
+    let lent = set_lent (host_in c.args.host.now c.args.adjustments.now) c.requires _ _ _ _ z (rw (slot at.After-slot_of-slot, value at.After-value_of) at c.assign.ensures) c.clear.ensures in
+    set_after (host_in c.args.host.now c.args.adjustments.now) c.requires _ _ _ _ z _ (slot at.After-slot_of-slot) (shifted _ (number_is at.Else-code-ne0))
     (begun c.nobody.ensures lent (treated _ _ _) c.wake.ensures) c.told.ensures

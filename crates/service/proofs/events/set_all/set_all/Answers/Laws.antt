@@ -1,5 +1,5 @@
 -- Set all, once no check applies.
-use Rattle.std.proofs.Common.{◌≡◌, ℕ, ◌≤◌, List, [], get_or, ℤ, pos, ap, ◌∙◌, ap₂, arith}
+use Rattle.std.proofs.Common.{◌≡◌, ℕ, ◌≤◌, List, [], get_or, ℤ, pos, ap, ◌∙◌, ap₂}
 use Rattle.model.specs.declared.Set.{Set}
 use Rattle.model.specs.declared.Engine.{Engine}
 use Rattle.model.specs.declared.Told.{Told}
