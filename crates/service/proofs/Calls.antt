@@ -6,7 +6,7 @@ use Rattle.model.specs.declared.Waking.{Waking}
 use Rattle.model.specs.declared.Reply.TheVariants as reply
 use Rattle.model.specs.State.{fresh_state}
 use Rattle.model.specs.Waking.{waker}
-use Rattle.model.specs.Events.{Event, Form, as_told, as_seen, as_read, form_of, Read, Answer, Result, numbers_of, event}
+use Rattle.model.specs.Events.{Event, Form, as_told, as_seen, as_read, form_of, Answer, Result, numbers_of, event}
 use Rattle.model.specs.Runs.{run, came, start, Pairwise, end, next}
 use Rattle.model.proofs.EventLaws.{Agrees}
 use Rattle.model.proofs.Engines.{event_agrees, reached, engines_agree}

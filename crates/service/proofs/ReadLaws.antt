@@ -1,10 +1,9 @@
 -- The numbers that a reading shows, one semaphore at a time, as a loop writes them; and as they are read back.
-use Rattle.std.proofs.Common.{◌≡◌, ℕ, zero, suc, ◌+◌, ◌-◌, ◌*◌, ◌<◌, ◌≤◌, List, [], ◌∷◌, length, get_or, take, set, ℤ, sym, refl, ap, ◌∙◌, ap₂, arith}
+use Rattle.std.proofs.Common.{◌≡◌, ℕ, zero, suc, ◌+◌, ◌-◌, ◌*◌, ◌<◌, ◌≤◌, List, [], ◌∷◌, length, get_or, set, ℤ, sym, refl, ap, ◌∙◌, ap₂, arith}
 use lib.Seq.{sets}
 use Rattle.model.specs.declared.QueriedSet.{QueriedSet}
 use Rattle.model.specs.declared.Reading.{Reading}
 use Rattle.model.specs.Limits.{semaphores}
-use Rattle.model.specs.State.{State}
 use Rattle.model.specs.Checks.{slot_of, check_read_all}
 use Rattle.model.specs.Events.{Read, numbers_of, do_read_all}
 use Rattle.model.specs.WholeSet.{shown_at, set_checked, query_set, reads_from}

@@ -1,5 +1,5 @@
 -- A query and a reading change nothing: what they show, with the host and no wakings, is their reply.
-use Rattle.std.proofs.Common.{◌≡◌, ℕ, zero, suc, ◌+◌, ◌*◌, ◌≤◌, List, [], length, take, ℤ, sym, refl, ap, ◌∙◌, ap₂, arith, take_at}
+use Rattle.std.proofs.Common.{◌≡◌, ℕ, zero, suc, ◌*◌, ◌≤◌, List, [], length, take, ℤ, sym, refl, ap, ◌∙◌, ap₂, arith, take_at}
 use lib.Seq.{sets, sets-eq}
 use Rattle.model.specs.declared.Queried.{Queried}
 use Rattle.model.specs.declared.Reading.{Reading}

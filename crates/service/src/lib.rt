@@ -7,6 +7,7 @@
 // engine they are handed. `run` does any of them. `query_set` shows what a query of each semaphore of a set would, by one walk over its
 // sleepers; the event read all has its numbers from it.
 #![tactic(auto)]
+
 mod events;
 mod waiting;
 mod whole_set;

@@ -1,7 +1,7 @@
-use Rattle.std.proofs.Common.{◌-◌, refl, rules}
+use Rattle.std.proofs.Common.{refl}
 use Rattle.model.specs.Limits.{semaphores}
 use Rattle.host.proofs.RowLaws.{read_none}
-use Rattle.service.proofs.SetShown.{Counting, counted_more, counted_all}
+use Rattle.service.proofs.SetShown.{counted_more, counted_all}
 use Rattle.service.proofs.whole_set.ones_of.Goals as goal
 
 pub loop-n-init : goal.loop-n-init

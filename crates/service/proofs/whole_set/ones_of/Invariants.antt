@@ -1,7 +1,6 @@
-use Rattle.std.proofs.Common.{◌-◌, refl, rules}
+use Rattle.std.proofs.Common.{◌-◌}
 use Rattle.model.specs.Limits.{semaphores}
-use Rattle.host.proofs.RowLaws.{read_none}
-use Rattle.service.proofs.SetShown.{Counting, counted_more, counted_all}
+use Rattle.service.proofs.SetShown.{Counting}
 use Rattle.service.proofs.whole_set.ones_of.Given as goal
 
 -- `service::whole_set::ones_of` meets its contract. The invariant: the counts to n are those of the masks to n.

@@ -1,7 +1,7 @@
-use Rattle.std.proofs.Common.{◌≡◌, ◌<◌, sym, ◌∙◌, to_z-of_z, rules}
+use Rattle.std.proofs.Common.{◌≡◌, ◌<◌, sym, ◌∙◌, to_z-of_z}
 use Rattle.model.specs.Limits.{slots}
 use Rattle.model.specs.Checks.{slot_of, check_read_all}
-use Rattle.host.specs.Holding.{Host, host_in, state_in}
+use Rattle.host.specs.Holding.{host_in, state_in}
 use Rattle.service.proofs.EventLaws.{held_seated}
 use Rattle.service.proofs.SetShown.{set_refused_lem, set_small, set_shown}
 use Rattle.service.proofs.whole_set.query_set.Goals as goal

@@ -1,4 +1,4 @@
-use Rattle.std.proofs.Common.{◌≡◌, ℕ, List, [], pos, sym, ap, ◌∙◌, ap₂, rules}
+use Rattle.std.proofs.Common.{◌≡◌, ℕ, List, [], pos, sym, ap, ◌∙◌, ap₂}
 use Rattle.model.specs.declared.Caller.{Caller}
 use Rattle.model.specs.declared.Told.{Told}
 use Rattle.model.specs.Checks.{check_caller}

@@ -1,7 +1,5 @@
-use Rattle.std.proofs.Common.{◌-◌, refl, rules}
-use Rattle.model.specs.Limits.{slots}
-use Rattle.host.specs.Holding.{host_in}
-use Rattle.service_table.proofs.ExitLaws.{Undoing, undoing_first, undoing_more, undoing_host, undoing_masks}
+use Rattle.std.proofs.Common.{refl}
+use Rattle.service_table.proofs.ExitLaws.{undoing_first, undoing_more, undoing_host, undoing_masks}
 use Rattle.service.proofs.events.exit.undo_all.Goals as goal
 
 pub loop-slot-init : goal.loop-slot-init

@@ -1,7 +1,7 @@
-use Rattle.std.proofs.Common.{◌-◌, refl, rules}
+use Rattle.std.proofs.Common.{◌-◌}
 use Rattle.model.specs.Limits.{slots}
 use Rattle.host.specs.Holding.{host_in}
-use Rattle.service_table.proofs.ExitLaws.{Undoing, undoing_first, undoing_more, undoing_host, undoing_masks}
+use Rattle.service_table.proofs.ExitLaws.{Undoing}
 use Rattle.service.proofs.events.exit.undo_all.Given as goal
 
 -- `service::events::exit::undo_all` meets its contract: the slots before the loop's are done.

@@ -1,7 +1,7 @@
-use Rattle.std.proofs.Common.{◌≡◌, ◌<◌, sym, refl, ◌∙◌, arith, to_z-of_z, rules}
+use Rattle.std.proofs.Common.{◌≡◌, ◌<◌, sym, refl, ◌∙◌, arith, to_z-of_z}
 use Rattle.model.specs.Limits.{slots, semaphores}
 use Rattle.model.specs.Checks.{slot_of, check_query}
-use Rattle.host.specs.Holding.{Host, host_in, state_in}
+use Rattle.host.specs.Holding.{host_in, state_in}
 use Rattle.service.proofs.EventLaws.{held_seated}
 use Rattle.service.proofs.QueryLaws.{query_refused, query_small, queried}
 use Rattle.service.proofs.events.query.query.Goals as goal

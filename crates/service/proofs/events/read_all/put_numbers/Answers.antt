@@ -1,9 +1,5 @@
-use Rattle.std.proofs.Common.{◌≡◌, ◌-◌, ◌*◌, ◌≤◌, length, sym, ◌∙◌, arith, length-set, rules}
-use lib.Seq.{sets}
-use Rattle.model.specs.Limits.{semaphores}
-use Rattle.model.specs.Events.{numbers_of}
-use Rattle.model.specs.WholeSet.{reads_from}
-use Rattle.service.proofs.ReadLaws.{numbers_left, numbers_all, numbers_more, numbers_end}
+use Rattle.std.proofs.Common.{sym, ◌∙◌, arith, rules}
+use Rattle.service.proofs.ReadLaws.{numbers_more, numbers_end}
 use Rattle.service.proofs.events.read_all.put_numbers.Goals as goal
 
 pub loop-n-preserved : goal.loop-n-preserved

@@ -1,9 +1,9 @@
-use Rattle.std.proofs.Common.{◌≡◌, ◌-◌, ◌*◌, ◌≤◌, length, sym, ◌∙◌, arith, length-set, rules}
+use Rattle.std.proofs.Common.{◌≡◌, ◌-◌, ◌*◌, ◌≤◌, length}
 use lib.Seq.{sets}
 use Rattle.model.specs.Limits.{semaphores}
 use Rattle.model.specs.Events.{numbers_of}
 use Rattle.model.specs.WholeSet.{reads_from}
-use Rattle.service.proofs.ReadLaws.{numbers_left, numbers_all, numbers_more, numbers_end}
+use Rattle.service.proofs.ReadLaws.{numbers_left}
 use Rattle.service.proofs.events.read_all.put_numbers.Given as goal
 
 -- `put_numbers` meets its contract: what is written from here on, on what stands there, is all of it.

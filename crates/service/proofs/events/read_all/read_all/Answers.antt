@@ -1,7 +1,7 @@
 use mir.Val.{SFits}
 use Rattle.std.proofs.Common.{◌≡◌, to_z-of_z, w32, rules}
 use Rattle.model.specs.WholeSet.{query_set}
-use Rattle.host.specs.Holding.{Host, host_in, state_in}
+use Rattle.host.specs.Holding.{host_in, state_in}
 use Rattle.service.proofs.ReadLaws.{few_read, read_out_lem}
 use Rattle.service.proofs.events.read_all.read_all.Goals as goal
 use Rattle.service.proofs.events.read_all.read_all.Goals.{After-query_set-set}

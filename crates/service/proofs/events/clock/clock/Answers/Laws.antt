@@ -1,5 +1,5 @@
 -- Clock, once its check does not apply: the time is told, and those who are due are ended.
-use Rattle.std.proofs.Common.{◌≡◌, ℕ, List, [], ◌∷◌, length, set, pos, sym, refl, ap, ◌∙◌, subst, ap₂}
+use Rattle.std.proofs.Common.{◌≡◌, ℕ, List, length, set, pos, sym, refl, ap, ◌∙◌, subst, ap₂}
 use Rattle.model.specs.declared.Told.{Told}
 use Rattle.model.specs.declared.Waking.{Waking}
 use Rattle.model.specs.State.{Sleeper, State}
@@ -7,7 +7,7 @@ use Rattle.model.specs.Clock.{due, not_due}
 use Rattle.model.specs.Checks.{check_clock}
 use Rattle.model.specs.Events.{keep, ended_with, do_clock}
 use Rattle.host.specs.Parts.{clock, Row, with, put}
-use Rattle.host.specs.Holding.{Host, with_queue, with_time, host_of, array_in, sets_in, callers_in, time_in, queue_in, table_in, state_in, Held}
+use Rattle.host.specs.Holding.{Host, with_queue, with_time, host_of, array_in, sets_in, callers_in, queue_in, table_in, state_in, Held}
 use Rattle.host.specs.Queue.{Queued, QueueHeld}
 use Rattle.host.proofs.PartLaws.{set_parts, caller_parts, queue_parts, by_groups}
 use Rattle.wakings.specs.Wakings.{Place, list_of}
