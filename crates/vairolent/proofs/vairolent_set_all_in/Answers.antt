@@ -1,0 +1,9 @@
+use mathlib.Core.Path.{sym}
+use mir.Facts.{to_z-of_z}
+use borrow.Author.Rules.{rules}
+use Rattle.vairolent.proofs.Calls.{handed}
+use Rattle.vairolent.proofs.vairolent_set_all_in.Goals as goal
+
+-- the signed number goes to the service through its 32 bits, and comes back as it was
+pub returns : goal.returns
+returns c = rw (sym (to_z-of_z c.ranges.identifier)) (handed c.report.ensures c.set_all.ensures)
