@@ -1,5 +1,6 @@
 // Replays a run file onto standard output.
 #![tactic(auto)]
+
 ghost use Rattle.std.specs.Prelude.{◌≡◌};
 ghost use Rattle.host.specs.Holding.{host_in};
 ghost use Rattle.replaying.specs.Replay.{stage_in, last_stage};

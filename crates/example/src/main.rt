@@ -3,6 +3,7 @@
 // Two predictors share semaphore 0 of a set. The first wants it while it is taken and sleeps; the second gives it back, and
 // the first is woken. That each check below holds is proved from the events' promises alone.
 #![tactic(auto)]
+
 use model::{Engine, MODE_MAX, WAKING_BYTES, Wait};
 use service::{create, operate};
 

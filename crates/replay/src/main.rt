@@ -1,5 +1,6 @@
 // Replays a run file from standard input with the quick engine, and writes its lines on standard output.
 #![tactic(auto)]
+
 ghost use Rattle.std.specs.Prelude.{◌≡◌};
 ghost use Rattle.model.specs.declared.Engine.TheVariants.{Quick};
 ghost use Rattle.host.specs.Holding.{host_in};

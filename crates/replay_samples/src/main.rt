@@ -1,6 +1,7 @@
 // Replays a few run files that the gate keeps: the example, a file with no events, and one refused file of each code at
 // least. The bytes stand as the document writes them; a comment before each says what it is.
 #![tactic(auto)]
+
 use console::print;
 use model::Engine;
 

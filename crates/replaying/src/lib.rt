@@ -4,6 +4,7 @@
 // while there is room for one more. Each promises one equation with its definition in specs/Replay.antt; proofs/Whole.antt
 // has that the pieces put together are the whole text.
 #![tactic(auto)]
+
 ghost use Rattle.std.specs.Prelude.{◌≡◌, ◌+◌, ◌≤◌, length};
 ghost use Rattle.model.specs.State.{fresh_state};
 ghost use Rattle.host.specs.Holding.{host_in, host_of};

@@ -5,6 +5,7 @@
 // wakes nobody: it has all that the event read all shows, and more. Nothing at run time asks for the premise `Held`: a caller in
 // another language keeps it, by handing in the parts of `vairolent_fresh`, as the last event left them.
 #![tactic(auto)]
+
 ghost use Rattle.std.specs.Prelude.{◌≡◌, []};
 ghost use Rattle.model.specs.State.{fresh_state};
 ghost use Rattle.model.specs.Waking.{waker};

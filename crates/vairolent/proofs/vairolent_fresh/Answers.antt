@@ -1,7 +1,6 @@
 use mathlib.Core.Path.{refl, ap₂}
 use mathlib.Core.List.{List}
 use lib.IntN.{ℤ}
-use borrow.Author.Rules.{rules}
 use Rattle.host.specs.Parts.{Row}
 use Rattle.wakings.specs.Wakings.{places_from, places_in, list_of}
 use Rattle.vairolent.proofs.vairolent_fresh.Goals as goal

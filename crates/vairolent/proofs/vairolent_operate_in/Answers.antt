@@ -1,6 +1,5 @@
 use mathlib.Core.Path.{sym}
 use mir.Facts.{to_z-of_z}
-use borrow.Author.Rules.{rules}
 use Rattle.vairolent.proofs.Calls.{handed}
 use Rattle.vairolent.proofs.vairolent_operate_in.Goals as goal
 
