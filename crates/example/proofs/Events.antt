@@ -6,8 +6,6 @@ use mathlib.Core.List.{List, [], ◌∷◌}
 use lib.IntN.{pos}
 use lib.ListN.{length}
 use Rattle.model.specs.declared.Engine.TheVariants.{Quick}
-use Rattle.model.specs.declared.Position.TheVariants.{At}
-use Rattle.model.specs.declared.Wait.TheVariants.{Endless}
 use Rattle.model.specs.State.{State, fresh_state, clear_rows, cleared}
 use Rattle.host.specs.Holding.{Host, host_of, state_in, Held}
 use Rattle.host.proofs.HeldLaws.{state_back, held_of}
@@ -22,6 +20,7 @@ use Rattle.model.specs.Clock.{at_once}
 use Rattle.model.specs.Checks.{identifier_of, slot_of, names_set, no_process, asleep, number_too_high, permitted, free_from, check_caller, check_create, check_operate}
 use Rattle.model.specs.Permission.{class_bits, permits}
 use Rattle.model.specs.Events.{Result, create, operate, clear_number, assigned, cut, undo_all, exited, keep, ended_with, do_create, would_sleep, operated, do_operate, do_set_value, do_remove, treat, treat_from, touched_from, do_exit, do_query, event}
+use Rattle.std.specs.Prelude.{Some, None}
 
 -- one off semaphore 0, and one back
 abbrev pub take : List ℕ
@@ -35,10 +34,10 @@ abbrev pub created : Result
 created = event (waker Quick) fresh_state (create 1 1 511)
 
 abbrev pub slept : Result
-slept = event (waker Quick) created.state (operate 1 (pos 0) Endless take)
+slept = event (waker Quick) created.state (operate 1 (pos 0) None take)
 
 abbrev pub given : Result
-given = event (waker Quick) slept.state (operate 2 (pos 0) Endless give)
+given = event (waker Quick) slept.state (operate 2 (pos 0) None give)
 
 pub after_create : Reached created.state
 after_create = came start Quick (create 1 1 511)
@@ -60,13 +59,13 @@ pub is_created : {x : Host} {a : After} → x ≡ host_of fresh_state → a ≡ 
 unfolding event
 is_created e r = r ∙ ap (λ (s : State). after_of (do_create s 1 1 511)) (state start e)
 
-pub is_slept : {x : Host} {a : After} → x ≡ host_of created.state → a ≡ after_of (do_operate (waker Quick) (state_in x) 1 (pos 0) Endless take) → a ≡ after_of slept
+pub is_slept : {x : Host} {a : After} → x ≡ host_of created.state → a ≡ after_of (do_operate (waker Quick) (state_in x) 1 (pos 0) None take) → a ≡ after_of slept
 unfolding event
-is_slept e r = r ∙ ap (λ (s : State). after_of (do_operate (waker Quick) s 1 (pos 0) Endless take)) (state after_create e)
+is_slept e r = r ∙ ap (λ (s : State). after_of (do_operate (waker Quick) s 1 (pos 0) None take)) (state after_create e)
 
-pub is_given : {x : Host} {a : After} → x ≡ host_of slept.state → a ≡ after_of (do_operate (waker Quick) (state_in x) 2 (pos 0) Endless give) → a ≡ after_of given
+pub is_given : {x : Host} {a : After} → x ≡ host_of slept.state → a ≡ after_of (do_operate (waker Quick) (state_in x) 2 (pos 0) None give) → a ≡ after_of given
 unfolding event
-is_given e r = r ∙ ap (λ (s : State). after_of (do_operate (waker Quick) s 2 (pos 0) Endless give)) (state after_sleep e)
+is_given e r = r ∙ ap (λ (s : State). after_of (do_operate (waker Quick) s 2 (pos 0) None give)) (state after_sleep e)
 
 -- ---- what the three events give, computed
 
@@ -75,7 +74,7 @@ unfolding event do_create would_sleep at_once operated do_operate do_set_value d
 slept_looks = refl
 
 -- it stops at its first operation
-pub slept_position : slept.answer.position ≡ At 0
+pub slept_position : slept.answer.position ≡ Some 0
 unfolding event do_create would_sleep at_once operated do_operate do_set_value do_remove treat treat_from touched_from do_exit do_query identifier_of slot_of names_set no_process asleep number_too_high class_bits permits permitted free_from check_caller check_create check_operate clear_rows cleared clear_number assigned cut undo_all exited keep ended_with waker plain quick plain_round quick_round finish without look lasts_after applied after values_of adjustments_of judge_from go_on step next_value next_adjustment code_of decided_at finishes operations_from signed16 is_zero unmark marked named_by differing mine mask_of
 slept_position = refl
 

@@ -24,7 +24,7 @@ fn main() {
         Engine::Quick,
         1,
         0,
-        Wait::Endless,
+        None,
         &take,
     );
     check::expect(asleep.looks == 0);
@@ -35,7 +35,7 @@ fn main() {
         Engine::Quick,
         2,
         0,
-        Wait::Endless,
+        None,
         &give,
     );
     check::expect(given.woken == 1);

@@ -1,15 +1,15 @@
 -- A wait is read back from its number; and whether it is over, in numbers that cannot be too large.
 use Rattle.std.proofs.Common.{◌≡◌, ℕ, zero, suc, ◌+◌, ◌-◌, ◌<◌, ◌≤◌, Bool, true, false, leb, ◌≢◌, refl, ap, ◌∙◌, add-one, arith, le-leb, leb-false, leb-true}
 use borrow.Author.Tests.{lt-leb}
-use Rattle.model.specs.declared.Wait.{Wait}
-use Rattle.model.specs.declared.Wait.TheVariants.{Endless, Milliseconds}
 use Rattle.model.specs.Clock.{over_by}
 use Rattle.host.specs.Waits.{wait_number, wait_of}
+use Rattle.std.specs.Prelude.{Some, None}
+use Rattle.model.specs.State.{Wait}
 
 pub wait_back : (w : Wait) → wait_of (wait_number w) ≡ w
 unfolding wait_number wait_of
-wait_back Endless = refl
-wait_back (Milliseconds n) = ap wait_of (add-one n)
+wait_back None = refl
+wait_back (Some n) = ap wait_of (add-one n)
 
 module _ (time start : ℕ) where
   pub never_over : (wait : ℕ) → wait ≡ 0 → over_by time start (wait_of wait) ≡ false

@@ -15,8 +15,8 @@ pub fn wait_number(wait: Wait) -> u64
     ensures { result ≡ wait_number wait }
 {
     match wait {
-        Wait::Endless => 0,
-        Wait::Milliseconds(n) => (n as u64) + 1,
+        None => 0,
+        Some(n) => (n as u64) + 1,
     }
 }
 

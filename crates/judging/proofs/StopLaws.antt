@@ -12,10 +12,6 @@ use lib.IntN.{ℤ, pos, negsuc, ◌-ℤ◌}
 use lib.Signed.{lt_z}
 use borrow.Author.Tests.{le-leb, lt-ltb, le-ltb, not-true, not-false}
 use Rattle.model.specs.declared.Operation.{Operation}
-use Rattle.model.specs.declared.Next.{Next}
-use Rattle.model.specs.declared.Next.TheVariants as next
-use Rattle.model.specs.declared.Undo.{Undo}
-use Rattle.model.specs.declared.Undo.TheVariants as undo
 use Rattle.model.specs.declared.Outcome.{Outcome}
 use Rattle.model.specs.declared.Outcome.TheVariants.{Done, Sleep, Again, Range}
 use Rattle.model.specs.declared.Copies.{Copies}
@@ -32,6 +28,9 @@ use Rattle.judging.specs.Value.{value_of}
 use Rattle.judging.specs.Stop.{moved_to, stopped_at, stop_from}
 use Rattle.judging.proofs.Operations as operations
 use Rattle.judging.proofs.Values.{tested, next_is}
+use Rattle.std.specs.Prelude.{Option, Some, None, Ok, Err, Result}
+use Rattle.model.specs.declared.Halt.{Halt}
+use Rattle.model.specs.declared.Halt.TheVariants.{Over, Stop}
 
 -- ---- the turns of the loop: o is the i-th operation of the bytes, n its number within a set, and new where its amount leads
 
@@ -78,19 +77,19 @@ stops_nowhere bytes vs i e = rw (operations.none bytes i e)
 -- ---- one operation, as its value fares
 
 -- where an amount leads that stops, and one that goes on
-stop_tested : (new z : ℤ) → tested new z ≡ next.Stop → in_range new ≡ false
+stop_tested : (new z : ℤ) → tested new z ≡ Err Stop → in_range new ≡ false
 unfolding in_range
 stop_tested (pos m) z e = go (lt_z (pos 32767) (pos m) && lt_z (pos 0) z) (rw (le-ltb m 0 (omega arith)) at e)
   where
-    go : (b : Bool) → cond b next.Over (next.To m) ≡ next.Stop → in_range (pos m) ≡ false
+    go : (b : Bool) → cond b (Err Over) (Ok m) ≡ Err Stop → in_range (pos m) ≡ false
     go true f = let r : ◌≡◌ {A = ℕ} 0 1 = cc in absurd (omega arith)
     go false f = let r : ◌≡◌ {A = ℕ} 0 1 = cc in absurd (omega arith)
 stop_tested (negsuc m) z e = refl
 
-to_tested : (new z : ℤ) (x : ℕ) → tested new z ≡ next.To x → new ≡ pos x
+to_tested : (new z : ℤ) (x : ℕ) → tested new z ≡ Ok x → new ≡ pos x
 to_tested (pos m) z x e = go (lt_z (pos 32767) (pos m) && lt_z (pos 0) z) (rw (le-ltb m 0 (omega arith)) at e)
   where
-    go : (b : Bool) → cond b next.Over (next.To m) ≡ next.To x → ◌≡◌ {A = ℤ} (pos m) (pos x)
+    go : (b : Bool) → cond b (Err Over) (Ok m) ≡ Ok x → ◌≡◌ {A = ℤ} (pos m) (pos x)
     go true f = let r : ◌≡◌ {A = ℕ} 0 1 = cc in absurd (omega arith)
     go false f = let r : m ≡ x = cc in rw r
 to_tested (negsuc m) z x e = let r : ◌≡◌ {A = ℕ} 0 1 = cc in absurd (omega arith)
@@ -120,7 +119,7 @@ module _ (start : Copies) (more : List Operation) where
     value = get_or c.values o.number 0
 
     -- it goes on to the value x
-    to : (x : ℕ) (c' : Copies) → next_value value o.amount ≡ next.To x → c'.values ≡ set c.values o.number x → Fine c' → Found (o ∷ os) c i (judge_from start os c' (i + 1))
+    to : (x : ℕ) (c' : Copies) → next_value value o.amount ≡ Ok x → c'.values ≡ set c.values o.number x → Fine c' → Found (o ∷ os) c i (judge_from start os c' (i + 1))
     unfolding stop_from in_range value_of
     to x c' ex ev f' e =
         let here : o.number % semaphores ≡ o.number = mod-eq_of_lt small in
@@ -133,7 +132,7 @@ module _ (start : Copies) (more : List Operation) where
     abbrev Finds : Judged → Type 0
     Finds j = Fine j.copies → Found (o ∷ os) c i (go_on start i j.outcome (judge_from start os j.copies (i + 1)))
 
-    stops : next_value value o.amount ≡ next.Stop → Finds (judged Sleep i c)
+    stops : next_value value o.amount ≡ Err Stop → Finds (judged Sleep i c)
     unfolding stop_from go_on
     stops ex g e =
         let here : o.number % semaphores ≡ o.number = mod-eq_of_lt small in
@@ -141,17 +140,17 @@ module _ (start : Copies) (more : List Operation) where
         let p : i - i ≡ 0 = omega arith in
         rw (here, out, p)
 
-    undone_by : (x : ℕ) → next_value value o.amount ≡ next.To x → (y : Undo) → Finds (undone c o i x y)
+    undone_by : (x : ℕ) → next_value value o.amount ≡ Ok x → (y : Option ℤ) → Finds (undone c o i x y)
     unfolding go_on
-    undone_by x ex undo.Out g e = let z : ◌≡◌ {A = ℕ} 0 1 = cc in absurd (omega arith)
-    undone_by x ex (undo.To a) g e = to x _ ex refl g e
+    undone_by x ex None g e = let z : ◌≡◌ {A = ℕ} 0 1 = cc in absurd (omega arith)
+    undone_by x ex (Some a) g e = to x _ ex refl g e
 
-    by : (x : Next) → next_value value o.amount ≡ x → Finds (valued c o i x)
+    by : (x : Result ℕ Halt) → next_value value o.amount ≡ x → Finds (valued c o i x)
     unfolding go_on
-    by next.Over ex = λ g e. let z : ◌≡◌ {A = ℕ} 0 1 = cc in absurd (omega arith)
-    by next.Stop ex = either Finds (no_wait o) _ _ (λ g e. let z : ◌≡◌ {A = ℕ} 0 1 = cc in absurd (omega arith)) (stops ex)
-    by (next.To x) ex =
-        let y : Undo = next_adjustment (get_or c.adjustments o.number (pos 0)) o.amount in
+    by (Err Over) ex = λ g e. let z : ◌≡◌ {A = ℕ} 0 1 = cc in absurd (omega arith)
+    by (Err Stop) ex = either Finds (no_wait o) _ _ (λ g e. let z : ◌≡◌ {A = ℕ} 0 1 = cc in absurd (omega arith)) (stops ex)
+    by (Ok x) ex =
+        let y : Option ℤ = next_adjustment (get_or c.adjustments o.number (pos 0)) o.amount in
         either Finds (with_undo o) (undone c o i x y) (judged Done i (with_value c o.number x)) (undone_by x ex y) (to x (with_value c o.number x) ex refl)
 
   stop_found : (os : List Operation) (c : Copies) (i : ℕ) → Fine c → All (λ (o : Operation). o.number < semaphores) os → Found os c i (judge_from start os c i)

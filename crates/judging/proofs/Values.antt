@@ -11,17 +11,17 @@ use mir.Syntax.{w16}
 use mir.Val.{SFits, Fits, to_z, of_z}
 use mir.Facts.{to_z-of_z}
 use borrow.Author.Tests.{lt-ltb, le-ltb, ne_eqb}
-use Rattle.model.specs.declared.Next.{Next}
-use Rattle.model.specs.declared.Next.TheVariants.{Over, Stop, To}
 use Rattle.model.specs.Operation.{is_zero, is_negative}
-use Rattle.model.specs.declared.Undo.TheVariants as undo
 use Rattle.model.specs.Judge.{next_value, next_adjustment}
 use Rattle.judging.specs.Stop.{moved_to}
 use Rattle.judging.proofs.Signed.{clash}
+use Rattle.std.specs.Prelude.{Some, Ok, Err, Result}
+use Rattle.model.specs.declared.Halt.{Halt}
+use Rattle.model.specs.declared.Halt.TheVariants.{Over, Stop}
 
 -- the next value by the tests of where the amount leads
-abbrev pub tested : ℤ → ℤ → Next
-tested new z = cond (lt_z new (pos 0)) Stop (cond (lt_z (pos 32767) new && lt_z (pos 0) z) Over (To (nat_abs new)))
+abbrev pub tested : ℤ → ℤ → Result ℕ Halt
+tested new z = cond (lt_z new (pos 0)) (Err Stop) (cond (lt_z (pos 32767) new && lt_z (pos 0) z) (Err Over) (Ok (nat_abs new)))
 
 pub next_is : (v : ℕ) (z : ℤ) → next_value v z ≡ tested (moved_to v z) z
 unfolding next_value is_zero
@@ -29,21 +29,21 @@ next_is zero (pos zero) = refl
 next_is (suc v) (pos zero) = rw (ne_eqb (suc v) 0 (λ e. omega arith), lt-ltb 0 (suc v) (omega arith))
 next_is v (pos (suc n)) = rw (ne_eqb (suc n) 0 (λ e. omega arith), le-ltb (v + suc n) 0 (omega arith), lt-ltb 0 (suc n) (omega arith)) (above (ltb 32767 (v + suc n)))
   where
-    above : (b : Bool) → cond b Over (To (v + suc n)) ≡ cond (b && true) Over (To (v + suc n))
+    above : (b : Bool) → cond b (Err Over) (Ok (v + suc n)) ≡ cond (b && true) (Err Over) (Ok (v + suc n))
     above true = refl
     above false = refl
 next_is v (negsuc n) = lowered (ltb v (suc n))
   where
-    either : (b : Bool) → To (v - suc n) ≡ cond (b && false) Over (To (v - suc n))
+    either : (b : Bool) → Ok (v - suc n) ≡ cond (b && false) (Err Over) (Ok (v - suc n))
     either true = refl
     either false = refl
 
-    lowered : (b : Bool) → cond b Stop (To (v - suc n)) ≡ tested (cond b (negsuc (suc n - suc v)) (pos (v - suc n))) (negsuc n)
+    lowered : (b : Bool) → cond b (Err Stop) (Ok (v - suc n)) ≡ tested (cond b (negsuc (suc n - suc v)) (pos (v - suc n))) (negsuc n)
     lowered true = refl
     lowered false = rw (le-ltb (v - suc n) 0 (omega arith)) (either (ltb 32767 (v - suc n)))
 
 -- an amount of 0
-pub next_zero : (v : ℕ) (z : ℤ) → is_zero z ≡ true → next_value v z ≡ cond (eqb v 0) (To v) Stop
+pub next_zero : (v : ℕ) (z : ℤ) → is_zero z ≡ true → next_value v z ≡ cond (eqb v 0) (Ok v) (Err Stop)
 unfolding next_value is_zero
 next_zero v (pos zero) h = refl
 next_zero v (pos (suc n)) h = clash (sym (ne_eqb (suc n) 0 (λ e. omega arith)) ∙ h)
@@ -80,18 +80,18 @@ negative_is {z} h = rw (to_z-of_z h) (below z)
     below (negsuc n) = refl
 
 -- ---- from 0: what is taken off stops, and what is added fits, with its adjustment
-pub off_zero : (z : ℤ) → is_negative z ≡ true → next_value 0 z ≡ Stop
+pub off_zero : (z : ℤ) → is_negative z ≡ true → next_value 0 z ≡ Err Stop
 unfolding next_value is_negative
 off_zero (pos n) h = clash h
 off_zero (negsuc n) h = rw (lt-ltb 0 (suc n) (omega arith))
 
-pub onto_zero : (z : ℤ) → SFits w16 z → is_negative z ≡ false → next_value 0 z ≡ To (nat_abs z)
+pub onto_zero : (z : ℤ) → SFits w16 z → is_negative z ≡ false → next_value 0 z ≡ Ok (nat_abs z)
 unfolding next_value is_negative
 onto_zero (pos zero) f h = refl
 onto_zero (pos (suc n)) f h = rw (zero-add, le-ltb 32767 (suc n) (omega (arith, f.sfits)))
 onto_zero (negsuc n) f h = clash (sym h)
 
-pub undo_zero : (z : ℤ) → SFits w16 z → is_negative z ≡ false → next_adjustment (pos 0) z ≡ undo.To (neg_ℤ z)
+pub undo_zero : (z : ℤ) → SFits w16 z → is_negative z ≡ false → next_adjustment (pos 0) z ≡ Some (neg_ℤ z)
 unfolding next_adjustment is_negative
 undo_zero (pos zero) f h = refl
 undo_zero (pos (suc n)) f h = rw (+ℤ_idl (negsuc n), le-ltb 32766 n (omega (arith, f.sfits)))

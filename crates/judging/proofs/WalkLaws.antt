@@ -5,12 +5,8 @@ use mathlib.Core.List.{List, [], ◌∷◌}
 use Prim.Native.Nat.{ℕ, ◌+◌}
 use native.Mathlib.Omega.{arith}
 use lib.ListN.{get_or, length-set}
-use lib.IntN.{pos}
+use lib.IntN.{ℤ, pos}
 use Rattle.model.specs.declared.Operation.{Operation}
-use Rattle.model.specs.declared.Next.{Next}
-use Rattle.model.specs.declared.Next.TheVariants as next
-use Rattle.model.specs.declared.Undo.{Undo}
-use Rattle.model.specs.declared.Undo.TheVariants as undo
 use Rattle.model.specs.declared.Outcome.{Outcome}
 use Rattle.model.specs.declared.Outcome.TheVariants.{Done, Sleep, Again, Range}
 use Rattle.model.specs.declared.Copies.{Copies}
@@ -19,6 +15,9 @@ use Rattle.model.specs.Operation.{no_wait, with_undo}
 use Rattle.model.specs.Judge.{next_value, next_adjustment, judged, undone, valued, step, go_on, judge_from, judge}
 use Rattle.model.proofs.JudgeLaws.{SameSize, Agreed, either}
 use Rattle.judging.specs.Walk.{or_else, walk_from}
+use Rattle.std.specs.Prelude.{Option, Some, None, Ok, Err, Result}
+use Rattle.model.specs.declared.Halt.{Halt}
+use Rattle.model.specs.declared.Halt.TheVariants.{Over, Stop}
 
 -- ---- one operation
 
@@ -31,15 +30,15 @@ module _ (c : Copies) (o : Operation) (i : ℕ) where
   stays : (x : Outcome) → Kept c i (judged x i c)
   stays x = record { position = refl; sizes = record { values = refl; adjustments = refl } }
 
-  undone_kept : (v : ℕ) (u : Undo) → Kept c i (undone c o i v u)
-  undone_kept v undo.Out = stays Range
-  undone_kept v (undo.To a) =
+  undone_kept : (v : ℕ) (u : Option ℤ) → Kept c i (undone c o i v u)
+  undone_kept v None = stays Range
+  undone_kept v (Some a) =
       record { position = refl; sizes = record { values = length-set c.values o.number v; adjustments = length-set c.adjustments o.number a } }
 
-  valued_kept : (n : Next) → Kept c i (valued c o i n)
-  valued_kept next.Over = stays Range
-  valued_kept next.Stop = either (Kept c i) (no_wait o) _ _ (stays Again) (stays Sleep)
-  valued_kept (next.To v) =
+  valued_kept : (n : Result ℕ Halt) → Kept c i (valued c o i n)
+  valued_kept (Err Over) = stays Range
+  valued_kept (Err Stop) = either (Kept c i) (no_wait o) _ _ (stays Again) (stays Sleep)
+  valued_kept (Ok v) =
       either (Kept c i) (with_undo o) _ _ (undone_kept v (next_adjustment (get_or c.adjustments o.number (pos 0)) o.amount))
       (record { position = refl; sizes = record { values = length-set c.values o.number v; adjustments = refl } })
 

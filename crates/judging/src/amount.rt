@@ -5,7 +5,7 @@ ghost use Rattle.model.specs.Operation.{is_zero, is_negative};
 ghost use Rattle.model.specs.Judge.{next_value, next_adjustment};
 ghost use Rattle.model.specs.Events.{cut as cut_to};
 
-use model::{Next, Undo, VALUE_MAX};
+use model::{Halt, VALUE_MAX};
 
 // The largest value, and the range of an adjustment, in 32 bits.
 pub const MOST: i32 = VALUE_MAX as i32;
@@ -35,38 +35,38 @@ pub fn moved(value: u16, amount: i16) -> i32
 
 // The value with the amount added, or why there is none. The common case is one test of the range. A value above it can only
 // be lowered. An amount of 0 is told apart first, so that the others wait for no choice.
-pub fn next_value(value: u16, amount: i16) -> Next
+pub fn next_value(value: u16, amount: i16) -> Result<u16, Halt>
     ensures { result ≡ next_value value amount }
 {
     if amount == 0 {
         if value == 0 {
-            return Next::To(0);
+            return Ok(0);
         }
-        return Next::Stop;
+        return Err(Halt::Stop);
     }
     let new = moved(value, amount);
     if 0 <= new && new <= MOST {
-        Next::To(new as u16)
+        Ok(new as u16)
     } else if new < 0 {
-        Next::Stop
+        Err(Halt::Stop)
     } else if 0 < amount {
-        Next::Over
+        Err(Halt::Over)
     } else {
-        Next::To(new as u16)
+        Ok(new as u16)
     }
 }
 
 // The adjustment with the amount subtracted, if it is in range.
-pub fn next_adjustment(adjustment: i16, amount: i16) -> Undo
+pub fn next_adjustment(adjustment: i16, amount: i16) -> Option<i16>
     ensures { result ≡ next_adjustment adjustment amount }
 {
     let new = (adjustment as i32) - (amount as i32);
     if new < LEAST {
-        Undo::Out
+        None
     } else if MOST < new {
-        Undo::Out
+        None
     } else {
-        Undo::To(new as i16)
+        Some(new as i16)
     }
 }
 

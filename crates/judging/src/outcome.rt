@@ -18,7 +18,7 @@ pub fn decided(outcome: Outcome, position: usize) -> Position
     ensures { result ≡ decided_at outcome (position % 256) }
 {
     match outcome {
-        Outcome::Done => Position::Nowhere,
-        _ => Position::At((position % 256) as u8),
+        Outcome::Done => None,
+        _ => Some((position % 256) as u8),
     }
 }

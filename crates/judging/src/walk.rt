@@ -9,7 +9,7 @@ ghost use Rattle.judging.specs.Walk.{copies, stopped as stopped_by, walk_from};
 
 use crate::amount::{is_negative, next_adjustment, next_value};
 use crate::operation::{no_wait, operation_at, with_undo};
-use model::{Next, OPERATION_BYTES, Operation, Outcome, SEMAPHORES, Undo};
+use model::{Halt, OPERATION_BYTES, Operation, Outcome, SEMAPHORES};
 
 // The outcome, and the position of the operation that decided.
 #[derive(Clone, Copy)]
@@ -58,15 +58,15 @@ fn operate(
     }
     let value = values[number];
     match next_value(value, amount) {
-        Next::Over => Outcome::Range,
-        Next::Stop => stopped(operation.flags),
-        Next::To(new) => {
+        Err(Halt::Over) => Outcome::Range,
+        Err(Halt::Stop) => stopped(operation.flags),
+        Ok(new) => {
             if with_undo(operation.flags) {
                 match next_adjustment(adjustments[number], amount) {
-                    Undo::Out => {
+                    None => {
                         return Outcome::Range;
                     }
-                    Undo::To(adjustment) => {
+                    Some(adjustment) => {
                         adjustments[number] = adjustment;
                     }
                 }

@@ -2,9 +2,9 @@
 use mathlib.Core.Path.{◌≡◌, refl}
 use mathlib.Core.List.{[], ◌∷◌}
 use lib.IntN.{pos, negsuc}
-use Rattle.model.specs.declared.Position.TheVariants.{Nowhere, At}
 use Rattle.model.specs.Waking.{waking}
 use Rattle.lines.specs.Text.{digits_in, digits_of, signed_of, word_line, head_line, bad_line, position_text, waking_text, wakings_text, event_text, query_text, numbers_text, read_text}
+use Rattle.std.specs.Prelude.{Some, None}
 
 -- `0`, `32767`
 zero_digits : digits_of 0 ≡ 48 ∷ []
@@ -20,25 +20,25 @@ head_three : head_line 3 ≡ 101 ∷ 118 ∷ 101 ∷ 110 ∷ 116 ∷ 115 ∷ 32 
 unfolding digits_in digits_of word_line
 head_three = refl
 
-asleep : event_text 1 (negsuc 0) (At 0) 0 0 [] ≡ 49 ∷ 32 ∷ 45 ∷ 49 ∷ 64 ∷ 48 ∷ 32 ∷ 48 ∷ 32 ∷ 48 ∷ 10 ∷ []
+asleep : event_text 1 (negsuc 0) (Some 0) 0 0 [] ≡ 49 ∷ 32 ∷ 45 ∷ 49 ∷ 64 ∷ 48 ∷ 32 ∷ 48 ∷ 32 ∷ 48 ∷ 10 ∷ []
 unfolding digits_in digits_of signed_of position_text wakings_text event_text
 asleep = refl
 
-woke_one : event_text 2 (pos 0) Nowhere 0 1 (waking 1 (pos 0) Nowhere ∷ []) ≡ 50 ∷ 32 ∷ 48 ∷ 32 ∷ 48 ∷ 32 ∷ 49 ∷ 32 ∷ 49 ∷ 61 ∷ 48 ∷ 10 ∷ []
+woke_one : event_text 2 (pos 0) None 0 1 (waking 1 (pos 0) None ∷ []) ≡ 50 ∷ 32 ∷ 48 ∷ 32 ∷ 48 ∷ 32 ∷ 49 ∷ 32 ∷ 49 ∷ 61 ∷ 48 ∷ 10 ∷ []
 unfolding digits_in digits_of signed_of position_text waking_text wakings_text event_text
 woke_one = refl
 
 -- the forms of document 02: `4 34@2 0 0`, and ` 3=11@1` of a line
-out_of_range : event_text 4 (pos 34) (At 2) 0 0 [] ≡ 52 ∷ 32 ∷ 51 ∷ 52 ∷ 64 ∷ 50 ∷ 32 ∷ 48 ∷ 32 ∷ 48 ∷ 10 ∷ []
+out_of_range : event_text 4 (pos 34) (Some 2) 0 0 [] ≡ 52 ∷ 32 ∷ 51 ∷ 52 ∷ 64 ∷ 50 ∷ 32 ∷ 48 ∷ 32 ∷ 48 ∷ 10 ∷ []
 unfolding digits_in digits_of signed_of position_text wakings_text event_text
 out_of_range = refl
 
-would_sleep_lem : waking_text 3 (pos 11) (At 1) ≡ 32 ∷ 51 ∷ 61 ∷ 49 ∷ 49 ∷ 64 ∷ 49 ∷ []
+would_sleep_lem : waking_text 3 (pos 11) (Some 1) ≡ 32 ∷ 51 ∷ 61 ∷ 49 ∷ 49 ∷ 64 ∷ 49 ∷ []
 unfolding digits_in digits_of signed_of position_text waking_text
 would_sleep_lem = refl
 
 -- an expiry: ` 1=11`
-gave_up : waking_text 1 (pos 11) Nowhere ≡ 32 ∷ 49 ∷ 61 ∷ 49 ∷ 49 ∷ []
+gave_up : waking_text 1 (pos 11) None ≡ 32 ∷ 49 ∷ 61 ∷ 49 ∷ 49 ∷ []
 unfolding digits_in digits_of signed_of position_text waking_text
 gave_up = refl
 

@@ -7,8 +7,6 @@ use lib.ListN.{length, length-append}
 use lib.IntN.{ℤ}
 use mir.Syntax.{w8, w16, w32, w64}
 use mir.Val.{Fits, SFits}
-use Rattle.model.specs.declared.Position.{Position}
-use Rattle.model.specs.declared.Position.TheVariants.{Nowhere, At}
 use Rattle.model.specs.declared.Waking.{Waking}
 use Rattle.model.specs.Limits.{semaphores, processes}
 use Rattle.model.specs.Runs.{All, none, also}
@@ -16,11 +14,13 @@ use Rattle.lines.specs.Text.{word_line, position_text, waking_text, wakings_text
 use Rattle.lines.specs.Buffer.{position_bytes, waking_bytes, number_bytes, line_bytes}
 use Rattle.lines.proofs.Digits.{digits_fit}
 use Rattle.lines.proofs.Signs.{signed_short}
+use Rattle.std.specs.Prelude.{Some, None}
+use Rattle.model.specs.Judge.{Position}
 
 -- a position within its type
 pub data Near : Position → Type 0 where
-  nowhere : Near Nowhere
-  near : {k : ℕ} → Fits w8 k → Near (At k)
+  nowhere : Near None
+  near : {k : ℕ} → Fits w8 k → Near (Some k)
 
 pub position_short : {p : Position} → Near p → length (position_text p) ≤ position_bytes
 unfolding position_text

@@ -1,9 +1,8 @@
 -- The lines that the program writes, as bytes ("The run file").
-use Rattle.std.specs.Prelude.{ℕ, zero, suc, ◌+◌, ◌/◌, ◌%◌, cond, List, [], ◌∷◌, ◌++◌, ltb, ℤ, pos, negsuc}
-use Rattle.model.specs.declared.Position.{Position}
-use Rattle.model.specs.declared.Position.TheVariants.{Nowhere, At}
+use Rattle.std.specs.Prelude.{ℕ, zero, suc, ◌+◌, ◌/◌, ◌%◌, cond, List, [], ◌∷◌, ◌++◌, ltb, ℤ, pos, negsuc, Some, None}
 use Rattle.model.specs.declared.Waking.{Waking}
 use Rattle.model.specs.Events.{Event, Form, as_told, as_seen, as_read, form_of, Answer, Result, numbers_of}
+use Rattle.model.specs.Judge.{Position}
 
 -- ---- numbers
 
@@ -54,8 +53,8 @@ bad_line code = word_line (98 ∷ 97 ∷ 100 ∷ []) code
 
 -- "the output, as code@position": what stands behind a code, and nothing where no operation decided
 unfoldable pub position_text : Position → List ℕ
-position_text Nowhere = []
-position_text (At k) = at_sign ∷ digits_of k
+position_text None = []
+position_text (Some k) = at_sign ∷ digits_of k
 
 -- "the wakings as process=code", a blank before each
 unfoldable pub waking_text : ℕ → ℤ → Position → List ℕ

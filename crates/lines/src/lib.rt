@@ -117,8 +117,8 @@ fn decided(out: &mut [u8], at: usize, position: Position) -> usize
     ensures { PutIn position_bytes out.old at (position_text position) out.new result }
 {
     match position {
-        Position::Nowhere => at,
-        Position::At(number) => marked(out, at, AT_SIGN, number as usize),
+        None => at,
+        Some(number) => marked(out, at, AT_SIGN, number as usize),
     }
 }
 

@@ -12,9 +12,8 @@ use lib.IntN.{ℤ, pos, negsuc, nat_abs}
 use borrow.Author.Tests.{eqb-true, eqb-false, ltb-true, ltb-false, leb-true, leb-false, not-false}
 use Rattle.model.specs.declared.Set.{Set}
 use Rattle.model.specs.declared.Operation.{Operation}
-use Rattle.model.specs.declared.Wait.{Wait}
 use Rattle.model.specs.Limits.{slots, semaphores, processes, value_max, mode_max, time_max, operation_bytes, array_bytes, value_bytes}
-use Rattle.model.specs.State.{State, Sleeper}
+use Rattle.model.specs.State.{State, Sleeper, Wait}
 use Rattle.model.specs.Operation.{operation_at, operations_from, operations_of}
 use Rattle.model.specs.Checks.{check, or_else, live, slot_of, names_set, no_process, number_too_high, free_from, free_slot, check_caller, check_access, check_create, check_operate, check_query, in_range, check_set_value, all_in_range, check_set_all, check_remove, check_process, check_clock}
 use Rattle.model.specs.Permission.{reading, altering}

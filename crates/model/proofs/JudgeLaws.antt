@@ -12,10 +12,6 @@ use lib.IntN.{ℤ, pos, negsuc, ◌-ℤ◌}
 use lib.Signed.{lt_z}
 use borrow.Author.Tests.{ltb-false}
 use Rattle.model.specs.declared.Operation.{Operation}
-use Rattle.model.specs.declared.Next.{Next}
-use Rattle.model.specs.declared.Next.TheVariants as next
-use Rattle.model.specs.declared.Undo.{Undo}
-use Rattle.model.specs.declared.Undo.TheVariants as undo
 use Rattle.model.specs.declared.Outcome.{Outcome}
 use Rattle.model.specs.declared.Outcome.TheVariants.{Done, Sleep, Again, Range}
 use Rattle.model.specs.declared.Copies.{Copies}
@@ -26,6 +22,9 @@ use Rattle.model.specs.Judge.{next_value, next_adjustment, judged, with_value, w
 use Rattle.model.specs.Runs.{All}
 use Rattle.model.proofs.Lists.{rest, first, all_of, all_map, all_set, all_get_d, set_alike}
 use Rattle.model.specs.Invariant.{Ranged}
+use Rattle.std.specs.Prelude.{Option, Some, None, Ok, Err, Result}
+use Rattle.model.specs.declared.Halt.{Halt}
+use Rattle.model.specs.declared.Halt.TheVariants.{Over, Stop}
 
 -- whichever of the two a test picks
 pub either : {A : Type 0} (P : A → Type 0) (b : Bool) (x y : A) → P x → P y → P (cond b x y)
@@ -60,21 +59,21 @@ pub record Fine (c : Copies) : Type 0 where
   pub ranged : All Ranged c.adjustments
 
 -- the value that an amount leads to is in range
-pub next_small : (v : ℕ) (z : ℤ) (x : ℕ) → v ≤ value_max → next_value v z ≡ next.To x → x ≤ value_max
+pub next_small : (v : ℕ) (z : ℤ) (x : ℕ) → v ≤ value_max → next_value v z ≡ Ok x → x ≤ value_max
 unfolding next_value
 next_small v (pos zero) x h e = go (eqb v 0) e
   where
-    go : (b : Bool) → cond b (next.To v) next.Stop ≡ next.To x → x ≤ value_max
+    go : (b : Bool) → cond b (Ok v) (Err Stop) ≡ Ok x → x ≤ value_max
     go true f = let r : v ≡ x = cc in omega arith
     go false f = let r : ◌≡◌ {A = ℕ} 0 1 = cc in absurd (omega arith)
 next_small v (pos (suc k)) x h e = go (ltb value_max (v + suc k)) refl e
   where
-    go : (b : Bool) → ltb value_max (v + suc k) ≡ b → cond b next.Over (next.To (v + suc k)) ≡ next.To x → x ≤ value_max
+    go : (b : Bool) → ltb value_max (v + suc k) ≡ b → cond b (Err Over) (Ok (v + suc k)) ≡ Ok x → x ≤ value_max
     go true g f = let r : ◌≡◌ {A = ℕ} 0 1 = cc in absurd (omega arith)
     go false g f = let r : v + suc k ≡ x = cc in omega (arith, ltb-false value_max (v + suc k) g)
 next_small v (negsuc k) x h e = go (ltb v (suc k)) e
   where
-    go : (b : Bool) → cond b next.Stop (next.To (v - suc k)) ≡ next.To x → x ≤ value_max
+    go : (b : Bool) → cond b (Err Stop) (Ok (v - suc k)) ≡ Ok x → x ≤ value_max
     go true f = let r : ◌≡◌ {A = ℕ} 0 1 = cc in absurd (omega arith)
     go false f = let r : v - suc k ≡ x = cc in omega arith
 
@@ -83,33 +82,33 @@ within : (z : ℤ) → lt_z z (negsuc (value_max - 1)) ≡ false → lt_z (pos v
 within (pos n) h k = ltb-false value_max n k
 within (negsuc n) h k = let r : n ≤ 32766 = ltb-false 32766 n h in omega arith
 
-pub next_ranged : (a amount z : ℤ) → next_adjustment a amount ≡ undo.To z → Ranged z
+pub next_ranged : (a amount z : ℤ) → next_adjustment a amount ≡ Some z → Ranged z
 unfolding next_adjustment
 next_ranged a amount z e = go (lt_z (a -ℤ amount) (negsuc (value_max - 1))) refl (lt_z (pos value_max) (a -ℤ amount)) refl e
   where
     go : (b : Bool) → lt_z (a -ℤ amount) (negsuc (value_max - 1)) ≡ b → (b' : Bool) → lt_z (pos value_max) (a -ℤ amount) ≡ b'
-        → cond b undo.Out (cond b' undo.Out (undo.To (a -ℤ amount))) ≡ undo.To z → Ranged z
+        → cond b None (cond b' None (Some (a -ℤ amount))) ≡ Some z → Ranged z
     go true h b' k f = let r : ◌≡◌ {A = ℕ} 0 1 = cc in absurd (omega arith)
     go false h true k f = let r : ◌≡◌ {A = ℕ} 0 1 = cc in absurd (omega arith)
     go false h false k f = let r : a -ℤ amount ≡ z = cc in rw r at (within (a -ℤ amount) h k)
 
 -- what an operation leaves: the copies as they were, with its value, or with its value and its adjustment
 step_leaves : (P : Copies → Type 0) (c : Copies) (o : Operation) (i : ℕ) → P c
-    → ((v : ℕ) → next_value (get_or c.values o.number 0) o.amount ≡ next.To v → P (with_value c o.number v))
-    → ((v : ℕ) (a : ℤ) → P (with_value c o.number v) → next_adjustment (get_or c.adjustments o.number (pos 0)) o.amount ≡ undo.To a
+    → ((v : ℕ) → next_value (get_or c.values o.number 0) o.amount ≡ Ok v → P (with_value c o.number v))
+    → ((v : ℕ) (a : ℤ) → P (with_value c o.number v) → next_adjustment (get_or c.adjustments o.number (pos 0)) o.amount ≡ Some a
     → P (with_adjustment (with_value c o.number v) o.number a))
     → P (step c o i).copies
 unfolding step
 step_leaves P c o i h value adjustment = go (next_value (get_or c.values o.number 0) o.amount) refl
   where
-    adjusted : (v : ℕ) → P (with_value c o.number v) → (y : Undo) → next_adjustment (get_or c.adjustments o.number (pos 0)) o.amount ≡ y → P (undone c o i v y).copies
-    adjusted v k undo.Out e = h
-    adjusted v k (undo.To a) e = adjustment v a k e
+    adjusted : (v : ℕ) → P (with_value c o.number v) → (y : Option ℤ) → next_adjustment (get_or c.adjustments o.number (pos 0)) o.amount ≡ y → P (undone c o i v y).copies
+    adjusted v k None e = h
+    adjusted v k (Some a) e = adjustment v a k e
 
-    go : (x : Next) → next_value (get_or c.values o.number 0) o.amount ≡ x → P (valued c o i x).copies
-    go next.Over e = h
-    go next.Stop e = either (λ (j : Judged). P j.copies) (no_wait o) _ _ h h
-    go (next.To v) e = either (λ (j : Judged). P j.copies) (with_undo o) _ _ (adjusted v (value v e) _ refl) (value v e)
+    go : (x : Result ℕ Halt) → next_value (get_or c.values o.number 0) o.amount ≡ x → P (valued c o i x).copies
+    go (Err Over) e = h
+    go (Err Stop) e = either (λ (j : Judged). P j.copies) (no_wait o) _ _ h h
+    go (Ok v) e = either (λ (j : Judged). P j.copies) (with_undo o) _ _ (adjusted v (value v e) _ refl) (value v e)
 
 -- what goes on leaves the copies of the rest, or those that the array began with
 go_on_leaves : (P : Copies → Type 0) (start : Copies) (i : ℕ) (x : Outcome) (more : Judged) → P start → P more.copies → P (go_on start i x more).copies
@@ -193,9 +192,9 @@ module _ (c c' : Copies) (z : SameSize c c') where
         alike = λ o h. record { value = set_alike 0 c.values c'.values n v o.number z.values h.value; adjustment = h.adjustment };
       }
 
-  undone_twin : (o : Operation) (i v : ℕ) (y : Undo) → Twin c c' (undone c o i v y) (undone c' o i v y)
-  undone_twin o i v undo.Out = still Range i
-  undone_twin o i v (undo.To a) =
+  undone_twin : (o : Operation) (i v : ℕ) (y : Option ℤ) → Twin c c' (undone c o i v y) (undone c' o i v y)
+  undone_twin o i v None = still Range i
+  undone_twin o i v (Some a) =
       let s : Twin c c' (judged Done i (with_value c o.number v)) (judged Done i (with_value c' o.number v)) = stored o.number v i in
       record {
         outcome = refl;
@@ -217,14 +216,14 @@ module _ (c c' : Copies) (z : SameSize c c') where
       waits true = still Again i
       waits false = still Sleep i
 
-      takes : (v : ℕ) (y : Undo) (b : Bool) → Twin c c' (cond b (undone c o i v y) (judged Done i (with_value c o.number v))) (cond b (undone c' o i v y) (judged Done i (with_value c' o.number v)))
+      takes : (v : ℕ) (y : Option ℤ) (b : Bool) → Twin c c' (cond b (undone c o i v y) (judged Done i (with_value c o.number v))) (cond b (undone c' o i v y) (judged Done i (with_value c' o.number v)))
       takes v y true = undone_twin o i v y
       takes v y false = stored o.number v i
 
-      go : (x : Next) → Twin c c' (valued c o i x) (valued c' o i x)
-      go next.Over = still Range i
-      go next.Stop = waits (no_wait o)
-      go (next.To v) = rw h.adjustment (takes v (next_adjustment (get_or c'.adjustments o.number (pos 0)) o.amount) (with_undo o))
+      go : (x : Result ℕ Halt) → Twin c c' (valued c o i x) (valued c' o i x)
+      go (Err Over) = still Range i
+      go (Err Stop) = waits (no_wait o)
+      go (Ok v) = rw h.adjustment (takes v (next_adjustment (get_or c'.adjustments o.number (pos 0)) o.amount) (with_undo o))
 
 -- what goes on has one outcome, and decides at one position
 pub record Agreed (j j' : Judged) : Type 0 where

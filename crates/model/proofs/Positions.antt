@@ -14,18 +14,15 @@ use borrow.Author.Tests.{ltb-true, ltb-false}
 use Rattle.model.specs.declared.Operation.{Operation}
 use Rattle.model.specs.declared.Outcome.{Outcome}
 use Rattle.model.specs.declared.Outcome.TheVariants.{Done, Sleep, Again, Range}
-use Rattle.model.specs.declared.Position.{Position}
-use Rattle.model.specs.declared.Position.TheVariants.{Nowhere, At}
 use Rattle.model.specs.declared.Copies.{Copies}
 use Rattle.model.specs.declared.Judged.{Judged}
-use Rattle.model.specs.declared.Wait.{Wait}
 use Rattle.model.specs.declared.Waking.{Waking}
 use Rattle.model.specs.declared.Set.{Set}
 use Rattle.model.specs.declared.Engine.{Engine}
 use Rattle.model.specs.Limits.{operations, operation_bytes}
-use Rattle.model.specs.State.{State, Table, Sleeper, no_sleeper}
+use Rattle.model.specs.State.{State, Table, Sleeper, no_sleeper, Wait}
 use Rattle.model.specs.Operation.{operations_from, operations_of}
-use Rattle.model.specs.Judge.{judged, step, go_on, judge_from, judge, code_of, decided_at, decider_of, finishes}
+use Rattle.model.specs.Judge.{judged, step, go_on, judge_from, judge, code_of, decided_at, decider_of, finishes, Position}
 use Rattle.model.specs.Look.{copies_of, look}
 use Rattle.model.specs.Waking.{World, Waker, waker, waking, finish}
 use Rattle.model.specs.Clock.{at_once}
@@ -38,6 +35,7 @@ use Rattle.model.proofs.Lists.{all_append}
 use Rattle.model.proofs.JudgeLaws.{either}
 use Rattle.model.proofs.Rules.{KeptByFinish, tame}
 use Rattle.model.proofs.Calm.{treat_from_keeps}
+use Rattle.std.specs.Prelude.{Some, None}
 
 -- ---- how far an array goes
 
@@ -127,14 +125,14 @@ position_small t s f =
 -- ---- the operation that is named
 
 -- two positions are there and the same, or one is not
-same_at : {i k : ℕ} → At i ≡ At k → i ≡ k
+same_at : {i k : ℕ} → Some i ≡ Some k → i ≡ k
 same_at e = cc
 
-not_there : {k : ℕ} → Nowhere ≡ At k → ⊥
+not_there : {k : ℕ} → None ≡ Some k → ⊥
 not_there e = let z : ◌≡◌ {A = ℕ} 0 1 = cc in omega arith
 
 -- judging that names an operation is not done, and it is at the position where judging ended
-named_at : (x : Outcome) (n i : ℕ) → decided_at x n ≡ At i → (x ≢ Done) × (n ≡ i)
+named_at : (x : Outcome) (n i : ℕ) → decided_at x n ≡ Some i → (x ≢ Done) × (n ≡ i)
 unfolding decided_at
 named_at Done n i e = absurd (not_there e)
 named_at Sleep n i e = (λ (d : Sleep ≡ Done). let z : ◌≡◌ {A = ℕ} 0 1 = cc in omega arith, same_at e)
@@ -142,7 +140,7 @@ named_at Again n i e = (λ (d : Again ≡ Done). let z : ◌≡◌ {A = ℕ} 0 1
 named_at Range n i e = (λ (d : Range ≡ Done). let z : ◌≡◌ {A = ℕ} 0 1 = cc in omega arith, same_at e)
 
 -- it decides
-pub decides : (start : Copies) (os : List Operation) (i : ℕ) → decider_of (judge start os) ≡ At i → Decides start os i
+pub decides : (start : Copies) (os : List Operation) (i : ℕ) → decider_of (judge start os) ≡ Some i → Decides start os i
 decides start os i e =
     let g : Goes start os start 0 = goes start os start 0 in
     let n : ((judge start os).outcome ≢ Done) × ((judge start os).position ≡ i) = named_at (judge start os).outcome (judge start os).position i e in
@@ -151,7 +149,7 @@ decides start os i e =
     rw t at d
 
 -- an array that is not done names one
-names_one : (x : Outcome) (n : ℕ) → x ≢ Done → decided_at x n ≡ At n
+names_one : (x : Outcome) (n : ℕ) → x ≢ Done → decided_at x n ≡ Some n
 unfolding decided_at
 names_one Done n h = absurd (h refl)
 names_one Sleep n h = refl
@@ -163,13 +161,13 @@ later : {start : Copies} {os : List Operation} (i j : ℕ) → Decides start os 
 later i j a b h = a.stops (sym a.decides ∙ b.before (suc i) h)
 
 -- the operation that decides is the one that is named
-pub decider : (start : Copies) (os : List Operation) (i : ℕ) → Decides start os i → decider_of (judge start os) ≡ At i
-decider start os i d = named ∙ ap At (same (ltb i k) refl (ltb k i) refl)
+pub decider : (start : Copies) (os : List Operation) (i : ℕ) → Decides start os i → decider_of (judge start os) ≡ Some i
+decider start os i d = named ∙ ap Some (same (ltb i k) refl (ltb k i) refl)
   where
     k : ℕ
     k = (judge start os).position
 
-    named : decider_of (judge start os) ≡ At (judge start os).position
+    named : decider_of (judge start os) ≡ Some (judge start os).position
     named = names_one (judge start os).outcome (judge start os).position d.stops
 
     same : (a : Bool) → ltb i k ≡ a → (b : Bool) → ltb k i ≡ b → k ≡ i
@@ -180,12 +178,12 @@ decider start os i d = named ∙ ap At (same (ltb i k) refl (ltb k i) refl)
 -- ---- looks and events
 
 -- a look that names an operation, and so the waking that it ends in
-pub look_decides : (t : Table) (s : Sleeper) (i : ℕ) → decider_of (look t s) ≡ At i → Decides (copies_of t s) (operations_of s.array) i
+pub look_decides : (t : Table) (s : Sleeper) (i : ℕ) → decider_of (look t s) ≡ Some i → Decides (copies_of t s) (operations_of s.array) i
 unfolding look
 look_decides t s i e = decides (copies_of t s) (operations_of s.array) i e
 
 -- a check names none, and what it lets through may name one
-checked_named : (code : ℕ) (s : State) (r : Result) (P : Position → Type 0) → P Nowhere → P r.answer.position → P (checked code s r).answer.position
+checked_named : (code : ℕ) (s : State) (r : Result) (P : Position → Type 0) → P None → P r.answer.position → P (checked code s r).answer.position
 checked_named zero s r P n h = h
 checked_named (suc code) s r P n h = n
 
@@ -196,7 +194,7 @@ would_sleep_named s c at = either (λ (r : Result). r.answer.position ≡ at) (a
 
 -- an operate names the operation that decides its call, and the one that decides
 operated_named : (wake : Waker) (s : State) (c : Sleeper) (x : Outcome) (copies : Copies) (k : ℕ)
-    → (operated wake s c x (decider_of (look s.table c)) copies).answer.position ≡ At k → Decides (copies_of s.table c) (operations_of c.array) k
+    → (operated wake s c x (decider_of (look s.table c)) copies).answer.position ≡ Some k → Decides (copies_of s.table c) (operations_of c.array) k
 unfolding operated
 operated_named wake s c Done copies k e = absurd (not_there e)
 operated_named wake s c Sleep copies k e = look_decides s.table c k (sym (would_sleep_named s c _) ∙ e)
@@ -214,7 +212,7 @@ module _ (wake : Waker) (s : State) (p : ℕ) (i : ℤ) (wait : Wait) (bytes : L
   abbrev c : Sleeper
   c = call s.time p i wait bytes
 
-  call_decider : check_operate s p i bytes ≡ 0 → (k : ℕ) → Decides (copies_of s.table c) (operations_of bytes) k → (do_operate wake s p i wait bytes).answer.position ≡ At k
+  call_decider : check_operate s p i bytes ≡ 0 → (k : ℕ) → Decides (copies_of s.table c) (operations_of bytes) k → (do_operate wake s p i wait bytes).answer.position ≡ Some k
   unfolding do_operate look
   call_decider z k d =
       rw z (operated_decider wake s c (look s.table c).outcome (decider_of (look s.table c)) (look s.table c).copies d.stops
@@ -225,7 +223,7 @@ module _ (wake : Waker) (s : State) (p : ℕ) (i : ℤ) (wait : Wait) (bytes : L
   call_named =
       record {
         decides =
-            checked_named (check_operate s p i bytes) s _ (λ at. (k : ℕ) → at ≡ At k → Decides (copies_of s.table c) (operations_of bytes) k)
+            checked_named (check_operate s p i bytes) s _ (λ at. (k : ℕ) → at ≡ Some k → Decides (copies_of s.table c) (operations_of bytes) k)
             (λ k e. absurd (not_there e))
             (operated_named wake s c _ _);
         decider = call_decider;
@@ -233,17 +231,17 @@ module _ (wake : Waker) (s : State) (p : ℕ) (i : ℤ) (wait : Wait) (bytes : L
 
 answer_named : (engine : Engine) (s : State) (e : Event) → Named s e (event (waker engine) s e).answer
 unfolding event do_create do_operate do_set_value do_remove do_signal do_exit do_query do_set_all do_read_all do_clock do_act_as
-answer_named engine s (create p count mode) = checked_named (check_create s p count mode) s _ (λ at. at ≡ Nowhere) refl refl
+answer_named engine s (create p count mode) = checked_named (check_create s p count mode) s _ (λ at. at ≡ None) refl refl
 answer_named engine s (operate p i wait bytes) = call_named (waker engine) s p i wait bytes
-answer_named engine s (set_value p i n v) = checked_named (check_set_value s p i n v) s _ (λ at. at ≡ Nowhere) refl refl
-answer_named engine s (remove p i) = checked_named (check_remove s p i) s _ (λ at. at ≡ Nowhere) refl refl
-answer_named engine s (signal p) = checked_named (check_process p) s _ (λ at. at ≡ Nowhere) refl refl
-answer_named engine s (exit p) = checked_named (check_process p) s _ (λ at. at ≡ Nowhere) refl refl
-answer_named engine s (query p i n) = checked_named (check_query s p i n) s _ (λ at. at ≡ Nowhere) refl refl
-answer_named engine s (set_all p i bytes) = checked_named (check_set_all s p i bytes) s _ (λ at. at ≡ Nowhere) refl refl
-answer_named engine s (read_all p i) = checked_named (check_read_all s p i) s _ (λ at. at ≡ Nowhere) refl refl
-answer_named engine s (clock now) = checked_named (check_clock s now) s _ (λ at. at ≡ Nowhere) refl refl
-answer_named engine s (act_as p user group) = checked_named (check_caller s p) s _ (λ at. at ≡ Nowhere) refl refl
+answer_named engine s (set_value p i n v) = checked_named (check_set_value s p i n v) s _ (λ at. at ≡ None) refl refl
+answer_named engine s (remove p i) = checked_named (check_remove s p i) s _ (λ at. at ≡ None) refl refl
+answer_named engine s (signal p) = checked_named (check_process p) s _ (λ at. at ≡ None) refl refl
+answer_named engine s (exit p) = checked_named (check_process p) s _ (λ at. at ≡ None) refl refl
+answer_named engine s (query p i n) = checked_named (check_query s p i n) s _ (λ at. at ≡ None) refl refl
+answer_named engine s (set_all p i bytes) = checked_named (check_set_all s p i bytes) s _ (λ at. at ≡ None) refl refl
+answer_named engine s (read_all p i) = checked_named (check_read_all s p i) s _ (λ at. at ≡ None) refl refl
+answer_named engine s (clock now) = checked_named (check_clock s now) s _ (λ at. at ≡ None) refl refl
+answer_named engine s (act_as p user group) = checked_named (check_caller s p) s _ (λ at. at ≡ None) refl refl
 
 -- ---- wakings
 
@@ -266,7 +264,7 @@ named_kept slot w i h lt mi f =
 wake_named : (engine : Engine) (slot touched : ℕ) (w : World) (l : ℕ) → AllNamed w → AllNamed (waker engine slot touched w l).world
 wake_named engine slot touched w l = (tame engine).keeps slot touched w l AllNamed (named_kept slot)
 
-ended_named : {P : Waking → Type 0} (code : ℤ) (test : Sleeper → Bool) (q : List Sleeper) → ((p : ℕ) → P (waking p code Nowhere)) → All P (ended_with code test q)
+ended_named : {P : Waking → Type 0} (code : ℤ) (test : Sleeper → Bool) (q : List Sleeper) → ((p : ℕ) → P (waking p code None)) → All P (ended_with code test q)
 unfolding ended_with
 ended_named code test [] h = none
 ended_named {P} code test (s ∷ q) h = either (All P) (test s) _ _ (also (h s.process) (ended_named code test q h)) (ended_named code test q h)

@@ -10,9 +10,7 @@ use lib.Dec.{eqb}
 use lib.ListN.{length, get_or, length-append}
 use lib.IntN.{ℤ}
 use borrow.Author.Tests.{eqb-true, eqb-false, not-true}
-use Rattle.model.specs.declared.Position.TheVariants.{Nowhere}
 use Rattle.model.specs.declared.Set.{Set}
-use Rattle.model.specs.declared.Wait.TheVariants.{Endless}
 use Rattle.model.specs.Limits.{processes}
 use Rattle.model.specs.State.{Sleeper, State, no_sleeper}
 use Rattle.model.specs.Waking.{without, waking}
@@ -21,6 +19,7 @@ use Rattle.model.specs.Events.{keep, ended_with, not_of}
 use Rattle.model.specs.Runs.{All, none, also}
 use Rattle.model.proofs.Lists.{first, rest, all_map, all_zip, all_at, all_append, all_without}
 use Rattle.model.specs.Invariant.{Fits, Other, Distinct, alone, apart, Invariant}
+use Rattle.std.specs.Prelude.{None}
 
 pub others_first : {s : Sleeper} {q : List Sleeper} → Distinct (s ∷ q) → All (Other s) q
 others_first (apart h t) = h
@@ -99,7 +98,7 @@ module _ (test : Sleeper → Bool) where
   keep_ended code (s ∷ q) = go (test s) (keep_ended code q)
     where
       go : (b : Bool) → length (keep (λ s. not (test s)) q) + length (ended_with code test q) ≡ length q
-          → length (cond (not b) (s ∷ keep (λ s. not (test s)) q) (keep (λ s. not (test s)) q)) + length (cond b (waking s.process code Nowhere ∷ ended_with code test q) (ended_with code test q)) ≡ suc (length q)
+          → length (cond (not b) (s ∷ keep (λ s. not (test s)) q) (keep (λ s. not (test s)) q)) + length (cond b (waking s.process code None ∷ ended_with code test q) (ended_with code test q)) ≡ suc (length q)
       go true r = omega arith
       go false r = omega arith
 
@@ -165,4 +164,4 @@ fewer_awake p q some last o f d =
     )
   where
     caller : Sleeper
-    caller = record { process = p; slot = 0; array = []; start = 0; wait = Endless }
+    caller = record { process = p; slot = 0; array = []; start = 0; wait = None }

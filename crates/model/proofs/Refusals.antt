@@ -5,18 +5,17 @@ use mathlib.Core.Path.{◌≡◌, refl, ap}
 use lib.IntN.{pos}
 use Rattle.model.specs.declared.Outcome.{Outcome}
 use Rattle.model.specs.declared.Outcome.TheVariants.{Done, Sleep, Again, Range}
-use Rattle.model.specs.declared.Position.{Position}
-use Rattle.model.specs.declared.Position.TheVariants.{Nowhere}
 use Rattle.model.specs.declared.Copies.{Copies}
 use Rattle.model.specs.declared.Engine.{Engine}
 use Rattle.model.specs.State.{State, Sleeper}
-use Rattle.model.specs.Judge.{code_of}
+use Rattle.model.specs.Judge.{code_of, Position}
 use Rattle.model.specs.Waking.{Waker, waker}
 use Rattle.model.specs.Clock.{at_once}
 use Rattle.model.specs.Checks.{check_caller, check_create, check_operate, check_query, check_set_value, check_set_all, check_read_all, check_remove, check_process, check_clock}
 use Rattle.model.specs.Events.{Event, create, operate, set_value, remove, signal, exit, query, set_all, read_all, clock, act_as, Result, refused_at, checked, would_sleep, operated, event, do_create, do_operate, do_set_value, do_remove, do_signal, do_exit, do_query, do_set_all, do_read_all, do_clock, do_act_as}
 use Rattle.model.specs.Runs.{RefusedWhole, Refuses}
 use Rattle.model.proofs.JudgeLaws.{either}
+use Rattle.std.specs.Prelude.{None}
 
 -- the code of a refusal, and the operation that it names, tell all of it
 same_code : (s : State) (a b : ℕ) (at : Position) → pos a ≡ pos b → refused_at s a at ≡ refused_at s b at
@@ -29,7 +28,7 @@ done r z code e = let n : ◌≡◌ {A = ℕ} 0 (suc code) = cc in absurd (omega
 -- an event is refused by a check, or as what it does
 by_check : (code : ℕ) (s : State) (r : Result) → Refuses s r → Refuses s (checked code s r)
 by_check zero s r h = h
-by_check (suc n) s r h = λ code e. same_code s (suc n) (suc code) Nowhere e
+by_check (suc n) s r h = λ code e. same_code s (suc n) (suc code) None e
 
 -- a call that would sleep is refused if it may not wait
 would_sleep_refuses : (s : State) (c : Sleeper) (at : Position) → Refuses s (would_sleep s c at)

@@ -13,15 +13,13 @@ use Rattle.model.specs.declared.Set.{Set}
 use Rattle.model.specs.declared.Operation.{Operation}
 use Rattle.model.specs.declared.Outcome.{Outcome}
 use Rattle.model.specs.declared.Outcome.TheVariants.{Done, Sleep, Again, Range}
-use Rattle.model.specs.declared.Position.{Position}
 use Rattle.model.specs.declared.Copies.{Copies}
 use Rattle.model.specs.declared.Judged.{Judged}
-use Rattle.model.specs.declared.Wait.{Wait}
 use Rattle.model.specs.declared.Engine.TheVariants.{Plain, Quick}
 use Rattle.model.specs.Limits.{slots, semaphores, processes}
-use Rattle.model.specs.State.{Table, Sleeper, State}
+use Rattle.model.specs.State.{Table, Sleeper, State, Wait}
 use Rattle.model.specs.Operation.{operations_of, has_bit}
-use Rattle.model.specs.Judge.{code_of, decider_of, finishes}
+use Rattle.model.specs.Judge.{code_of, decider_of, finishes, Position}
 use Rattle.model.specs.Look.{look, applied, values_of}
 use Rattle.model.specs.Marks.{mine, named, differing, every_number}
 use Rattle.model.specs.Waking.{World, Ended, could_finish, waker}

@@ -1,13 +1,11 @@
 -- "Waits that end by the clock": times and waits in milliseconds.
-use Rattle.std.specs.Prelude.{ℕ, ◌+◌, Bool, false, not, eqb, leb}
-use Rattle.model.specs.declared.Wait.{Wait}
-use Rattle.model.specs.declared.Wait.TheVariants.{Endless, Milliseconds}
-use Rattle.model.specs.State.{Sleeper}
+use Rattle.std.specs.Prelude.{ℕ, ◌+◌, Bool, false, not, eqb, leb, Some, None}
+use Rattle.model.specs.State.{Sleeper, Wait}
 
 -- "start plus wait is at or below the new time": an exact sum. Without a wait there is no such time.
 unfoldable pub over_by : ℕ → ℕ → Wait → Bool
-over_by now start Endless = false
-over_by now start (Milliseconds n) = leb (start + n) now
+over_by now start None = false
+over_by now start (Some n) = leb (start + n) now
 
 -- is the sleeper's wait over at this time, or not yet?
 abbrev pub due : ℕ → Sleeper → Bool
@@ -18,5 +16,5 @@ not_due now s = not (due now s)
 
 -- "a wait of 0"
 unfoldable pub at_once : Wait → Bool
-at_once Endless = false
-at_once (Milliseconds n) = eqb n 0
+at_once None = false
+at_once (Some n) = eqb n 0

@@ -1,5 +1,5 @@
 -- The eleven events. The engines differ in the waker only.
-use Rattle.std.specs.Prelude.{ℕ, zero, suc, ◌+◌, ◌-◌, ◌%◌, ◌^◌, Bool, cond, not, List, [], ◌∷◌, ◌++◌, eqb, get_or, set, replicate, ℤ, pos, nat_abs, ◌+ℤ◌}
+use Rattle.std.specs.Prelude.{ℕ, zero, suc, ◌+◌, ◌-◌, ◌%◌, ◌^◌, Bool, cond, not, List, [], ◌∷◌, ◌++◌, eqb, get_or, set, replicate, ℤ, pos, nat_abs, ◌+ℤ◌, None}
 use Rattle.std.proofs.Math.Seq.{slice, paste}
 use Rattle.std.proofs.lemmas.List.Edits.{sets}
 use Rattle.std.specs.Int.Signed.{lt_z}
@@ -7,16 +7,13 @@ use Rattle.model.specs.declared.Set.{Set}
 use Rattle.model.specs.declared.Caller.{Caller}
 use Rattle.model.specs.declared.Outcome.{Outcome}
 use Rattle.model.specs.declared.Outcome.TheVariants.{Done, Sleep, Again, Range}
-use Rattle.model.specs.declared.Position.{Position}
-use Rattle.model.specs.declared.Position.TheVariants.{Nowhere}
 use Rattle.model.specs.declared.Copies.{Copies}
 use Rattle.model.specs.declared.Waking.{Waking}
-use Rattle.model.specs.declared.Wait.{Wait}
 use Rattle.model.specs.declared.Event as declared
 use Rattle.model.specs.declared.Event.TheVariants.{Create, Operate, SetValue, Remove, Signal, Exit, Query, SetAll, ReadAll, Clock, ActAs}
 use Rattle.model.specs.Limits.{slots, processes, value_max, all_semaphores}
-use Rattle.model.specs.State.{Table, with_values, with_adjustments, Sleeper, Callers, caller_of, State, row, undo_row, clear_rows, cleared, free_set, no_set}
-use Rattle.model.specs.Judge.{code_of, decider_of}
+use Rattle.model.specs.State.{Table, with_values, with_adjustments, Sleeper, Callers, caller_of, State, row, undo_row, clear_rows, cleared, free_set, no_set, Wait}
+use Rattle.model.specs.Judge.{code_of, decider_of, Position}
 use Rattle.model.specs.Look.{look, applied, values_of}
 use Rattle.model.specs.Marks.{mine, differing, every_number, mask_of}
 use Rattle.model.specs.Waking.{World, Ended, Waker, waking}
@@ -120,7 +117,7 @@ answer_at code position = record { code = code; position = position; value = 0; 
 
 -- "A completed array, .. and the checks before judging have no position"
 abbrev pub answer : ℤ → Answer
-answer code = answer_at code Nowhere
+answer code = answer_at code None
 
 -- "A refused event returns its code, value 0, no looks and no wakings; the state is unchanged": one that is refused by judging
 -- names the operation that decided
@@ -128,7 +125,7 @@ abbrev pub refused_at : State → ℕ → Position → Result
 refused_at s code position = record { answer = answer_at (pos code) position; state = s; looks = 0; wakings = [] }
 
 abbrev pub refused : State → ℕ → Result
-refused s code = refused_at s code Nowhere
+refused s code = refused_at s code None
 
 -- done, with a new state, no looks, and these wakings
 abbrev pub done_with : State → List Waking → Result
@@ -181,7 +178,7 @@ keep test (s ∷ q) = cond (test s) (s ∷ keep test q) (keep test q)
 -- the sleepers that pass the test, ended with a code, oldest first
 unfoldable pub ended_with : ℤ → (Sleeper → Bool) → List Sleeper → List Waking
 ended_with code test [] = []
-ended_with code test (s ∷ q) = cond (test s) (waking s.process code Nowhere ∷ ended_with code test q) (ended_with code test q)
+ended_with code test (s ∷ q) = cond (test s) (waking s.process code None ∷ ended_with code test q) (ended_with code test q)
 
 -- is it a call of this process?
 abbrev pub is_of : ℕ → Sleeper → Bool
@@ -221,7 +218,7 @@ do_create s p count mode =
     let slot = free_slot s.sets in
     checked (check_create s p count mode) s
     (record {
-      answer = record { code = pos 0; position = Nowhere; value = identifier_of s.sets slot; seen = nothing_seen; all = [] };
+      answer = record { code = pos 0; position = None; value = identifier_of s.sets slot; seen = nothing_seen; all = [] };
       state = record {
         sets = set s.sets slot (made_by (caller_of s.callers p) (get_or s.sets slot no_set).generation count mode);
         callers = s.callers;
@@ -333,7 +330,7 @@ unfoldable pub do_query : State → ℕ → ℤ → ℕ → Result
 do_query s p i n =
     checked (check_query s p i n) s
     (record {
-      answer = record { code = pos 0; position = Nowhere; value = get_or s.table.values (row (slot_of i) + n) 0; seen = seen_at s (slot_of i) n; all = [] };
+      answer = record { code = pos 0; position = None; value = get_or s.table.values (row (slot_of i) + n) 0; seen = seen_at s (slot_of i) n; all = [] };
       state = s;
       looks = 0;
       wakings = [];
@@ -361,7 +358,7 @@ unfoldable pub do_read_all : State → ℕ → ℤ → Result
 do_read_all s p i =
     checked (check_read_all s p i) s
     (record {
-      answer = record { code = pos 0; position = Nowhere; value = 0; seen = nothing_seen; all = read_from s (slot_of i) 0 (get_or s.sets (slot_of i) no_set).count };
+      answer = record { code = pos 0; position = None; value = 0; seen = nothing_seen; all = read_from s (slot_of i) 0 (get_or s.sets (slot_of i) no_set).count };
       state = s;
       looks = 0;
       wakings = [];

@@ -1,33 +1,33 @@
 -- "The array is judged in order on a copy of the set's values and of the caller's adjustments for them" ("Judging an array").
-use Rattle.std.specs.Prelude.{ℕ, zero, suc, ◌+◌, ◌-◌, Bool, true, false, cond, List, [], ◌∷◌, ltb, eqb, get_or, set, ℤ, pos, negsuc, ◌-ℤ◌}
+use Rattle.std.specs.Prelude.{ℕ, zero, suc, ◌+◌, ◌-◌, Bool, true, false, cond, List, [], ◌∷◌, ltb, eqb, get_or, set, ℤ, pos, negsuc, ◌-ℤ◌, Option, Some, None, Ok, Err, Result}
 use Rattle.std.specs.Int.Signed.{lt_z}
 use Rattle.model.specs.declared.Operation.{Operation}
-use Rattle.model.specs.declared.Next.{Next}
-use Rattle.model.specs.declared.Next.TheVariants as next
-use Rattle.model.specs.declared.Undo.{Undo}
-use Rattle.model.specs.declared.Undo.TheVariants as undo
 use Rattle.model.specs.declared.Outcome.{Outcome}
 use Rattle.model.specs.declared.Outcome.TheVariants.{Done, Sleep, Again, Range}
-use Rattle.model.specs.declared.Position.{Position}
-use Rattle.model.specs.declared.Position.TheVariants.{Nowhere, At}
 use Rattle.model.specs.declared.Copies.{Copies}
 use Rattle.model.specs.declared.Judged.{Judged}
 use Rattle.model.specs.Limits.{value_max}
 use Rattle.model.specs.Operation.{no_wait, with_undo}
+use Rattle.model.specs.declared.Halt.{Halt}
+use Rattle.model.specs.declared.Halt.TheVariants.{Over, Stop}
+
+-- the operation that decided, by its position from 0; or that none did
+abbrev pub Position : Type 0
+Position = Option ℕ
 
 -- "amount above 0: value + amount over 32,767 is 34; amount below 0: value smaller than the magnitude stops here; amount 0: a
 -- value other than 0 stops here; the amount is added to the value". The magnitude of -32,768 is 32,768.
-unfoldable pub next_value : ℕ → ℤ → Next
-next_value v (pos zero) = cond (eqb v 0) (next.To v) next.Stop
-next_value v (pos (suc n)) = cond (ltb value_max (v + suc n)) next.Over (next.To (v + suc n))
-next_value v (negsuc n) = cond (ltb v (suc n)) next.Stop (next.To (v - suc n))
+unfoldable pub next_value : ℕ → ℤ → Result ℕ Halt
+next_value v (pos zero) = cond (eqb v 0) (Ok v) (Err Stop)
+next_value v (pos (suc n)) = cond (ltb value_max (v + suc n)) (Err Over) (Ok (v + suc n))
+next_value v (negsuc n) = cond (ltb v (suc n)) (Err Stop) (Ok (v - suc n))
 
 -- the amount "is subtracted from the adjustment, and an adjustment out of range is 34"; the range is -32,767 to 32,767
-unfoldable pub next_adjustment : ℤ → ℤ → Undo
+unfoldable pub next_adjustment : ℤ → ℤ → Option ℤ
 next_adjustment a amount =
-    cond (lt_z (a -ℤ amount) (negsuc (value_max - 1))) undo.Out
-    (cond (lt_z (pos value_max) (a -ℤ amount)) undo.Out
-    (undo.To (a -ℤ amount)))
+    cond (lt_z (a -ℤ amount) (negsuc (value_max - 1))) None
+    (cond (lt_z (pos value_max) (a -ℤ amount)) None
+    (Some (a -ℤ amount)))
 
 abbrev pub judged : Outcome → ℕ → Copies → Judged
 judged outcome position copies = record { outcome = outcome; position = position; copies = copies }
@@ -40,15 +40,15 @@ abbrev pub with_adjustment : Copies → ℕ → ℤ → Copies
 with_adjustment c n a = record { values = c.values; adjustments = set c.adjustments n a }
 
 -- an operation that goes on to the value v, as its adjustment fares
-abbrev pub undone : Copies → Operation → ℕ → ℕ → Undo → Judged
-undone c o i v undo.Out = judged Range i c
-undone c o i v (undo.To a) = judged Done i (with_adjustment (with_value c o.number v) o.number a)
+abbrev pub undone : Copies → Operation → ℕ → ℕ → Option ℤ → Judged
+undone c o i v None = judged Range i c
+undone c o i v (Some a) = judged Done i (with_adjustment (with_value c o.number v) o.number a)
 
 -- an operation, as its value fares: "A stop with IPC_NOWAIT on that same operation is 11; without it the outcome is sleep."
-abbrev pub valued : Copies → Operation → ℕ → Next → Judged
-valued c o i next.Over = judged Range i c
-valued c o i next.Stop = cond (no_wait o) (judged Again i c) (judged Sleep i c)
-valued c o i (next.To v) =
+abbrev pub valued : Copies → Operation → ℕ → Result ℕ Halt → Judged
+valued c o i (Err Over) = judged Range i c
+valued c o i (Err Stop) = cond (no_wait o) (judged Again i c) (judged Sleep i c)
+valued c o i (Ok v) =
     cond (with_undo o)
     (undone c o i v (next_adjustment (get_or c.adjustments o.number (pos 0)) o.amount))
     (judged Done i (with_value c o.number v))
@@ -82,10 +82,10 @@ code_of Range = pos 34
 -- "Judging is to name the position, from 0, of the operation that decided, whenever the outcome is 11, 34 or sleep"; "a completed
 -- array" has none
 unfoldable pub decided_at : Outcome → ℕ → Position
-decided_at Done i = Nowhere
-decided_at Sleep i = At i
-decided_at Again i = At i
-decided_at Range i = At i
+decided_at Done i = None
+decided_at Sleep i = Some i
+decided_at Again i = Some i
+decided_at Range i = Some i
 
 -- the operation that judging names
 abbrev pub decider_of : Judged → Position

@@ -1,11 +1,9 @@
 -- "Situations on the reviewer's desk", and from 14 on those that show rules of document 02: a table of events and of what each
 -- must show. proofs/Situations.antt proves every row.
-use Rattle.std.specs.Prelude.{ℕ, zero, suc, ◌+◌, ◌*◌, ◌-◌, ◌/◌, ◌%◌, ◌≡◌, List, [], ◌∷◌, ◌++◌, map, replicate, ℤ, pos, negsuc}
+use Rattle.std.specs.Prelude.{ℕ, zero, suc, ◌+◌, ◌*◌, ◌-◌, ◌/◌, ◌%◌, ◌≡◌, List, [], ◌∷◌, ◌++◌, map, replicate, ℤ, pos, negsuc, Some, None}
 use Rattle.model.specs.declared.Engine.{Engine}
 use Rattle.model.specs.declared.Engine.TheVariants.{Plain, Quick}
-use Rattle.model.specs.declared.Position.TheVariants.{Nowhere, At}
 use Rattle.model.specs.declared.Waking.{Waking}
-use Rattle.model.specs.declared.Wait.TheVariants.{Endless, Milliseconds}
 use Rattle.model.specs.Limits.{processes}
 use Rattle.model.specs.State.{Callers, State, free_set, fresh_table, fresh_callers, fresh_state}
 use Rattle.model.specs.Waking.{waking}
@@ -57,11 +55,11 @@ values (v ∷ vs) = bytes2 (bits32 v % 65536) ++ bytes2 (bits32 v / 65536) ++ va
 
 -- an array of a process at a set, without a wait
 abbrev operate : ℕ → ℤ → List ℕ → Event
-operate process set operations = events.operate process set Endless operations
+operate process set operations = events.operate process set None operations
 
 -- .. that waits so many milliseconds at most
 abbrev within : ℕ → ℕ → ℤ → List ℕ → Event
-within wait process set operations = events.operate process set (Milliseconds wait) operations
+within wait process set operations = events.operate process set (Some wait) operations
 
 -- ---- rows
 
@@ -110,32 +108,32 @@ gives e code = answers e (answer code)
 
 -- a code by judging, and the position of the operation that decided
 abbrev stops : Event → ℤ → ℕ → Step
-stops e code position = answers e (answer_at code (At position))
+stops e code position = answers e (answer_at code (Some position))
 
 -- with code 0: a value; looks and wakings
 abbrev tells : Event → ℕ → Step
-tells e value = answers e (record { code = pos 0; position = Nowhere; value = value; seen = nothing_seen; all = [] })
+tells e value = answers e (record { code = pos 0; position = None; value = value; seen = nothing_seen; all = [] })
 
 abbrev wakes : Event → ℕ → ℕ → List Waking → Step
 wakes e plain quick wakings = record { event = e; answer = answer (pos 0); plain = plain; quick = quick; wakings = wakings }
 
 -- a query that shows a value and a last process, and that nobody waits
 abbrev sees : Event → ℕ → ℕ → Step
-sees e value last = answers e (record { code = pos 0; position = Nowhere; value = value; seen = record { last = last; increase = 0; zero = 0; increase_mask = 0; zero_mask = 0 }; all = [] })
+sees e value last = answers e (record { code = pos 0; position = None; value = value; seen = record { last = last; increase = 0; zero = 0; increase_mask = 0; zero_mask = 0 }; all = [] })
 
 -- a reading that shows the semaphores of a set: of each its value, and how many wait for an increase and for zero
 abbrev reads : Event → List Read → Step
-reads e all = answers e (record { code = pos 0; position = Nowhere; value = 0; seen = nothing_seen; all = all })
+reads e all = answers e (record { code = pos 0; position = None; value = 0; seen = nothing_seen; all = all })
 
 abbrev at : ℕ → ℕ → ℕ → Read
 at value increase for_zero = record { value = value; increase = increase; zero = for_zero }
 
 -- a waking with a code alone; one with 11 or 34, and the position of the operation that decided
 abbrev woken : ℕ → ℤ → Waking
-woken process code = waking process code Nowhere
+woken process code = waking process code None
 
 abbrev ended : ℕ → ℤ → ℕ → Waking
-ended process code position = waking process code (At position)
+ended process code position = waking process code (Some position)
 
 abbrev done : ℤ
 done = pos 0
@@ -326,7 +324,7 @@ situation15 =
     fresh 2
     (gives (set_value 8 set0 0 (pos 1)) done
     ∷ stops (operate 2 set0 (op 0 (pos 0) none ++ op 1 (pos 0) none)) asleep 0
-    ∷ answers (query 8 set0 0) (record { code = done; position = Nowhere; value = 1; seen = record { last = 0; increase = 0; zero = 1; increase_mask = 0; zero_mask = 2 }; all = [] })
+    ∷ answers (query 8 set0 0) (record { code = done; position = None; value = 1; seen = record { last = 0; increase = 0; zero = 1; increase_mask = 0; zero_mask = 2 }; all = [] })
     ∷ sees (query 8 set0 1) 0 0
     ∷ wakes (operate 3 set0 (op 0 (minus 1) none)) 1 1 (woken 2 (pos 0) ∷ [])
     ∷ sees (query 8 set0 0) 0 2
@@ -445,7 +443,7 @@ situation22 =
     ∷ reads (read_all 8 set0) (at 0 0 0 ∷ at 0 0 0 ∷ at 5 1 0 ∷ [])
     ∷ sees (query 8 set0 0) 0 1
     ∷ sees (query 8 set0 1) 0 0
-    ∷ answers (query 8 set0 2) (record { code = done; position = Nowhere; value = 5; seen = record { last = 2; increase = 1; zero = 0; increase_mask = 4; zero_mask = 0 }; all = [] })
+    ∷ answers (query 8 set0 2) (record { code = done; position = None; value = 5; seen = record { last = 2; increase = 1; zero = 0; increase_mask = 4; zero_mask = 0 }; all = [] })
     ∷ [])
 
 -- 23: a wait ends at exactly start plus wait, and not a millisecond before. Time 1,000; asleep on (0,-1): process 1 for 250, and 2
@@ -620,7 +618,7 @@ situation32 =
         sets = record { generation = 0; count = 1; owner = 7; group = 0; mode = bits 6 0 0 } ∷ replicate 3 (free_set 0);
         callers = changed;
         table = fresh_table;
-        queue = record { process = 1; slot = 0; array = op 0 (minus 1) none; start = 0; wait = Endless } ∷ [];
+        queue = record { process = 1; slot = 0; array = op 0 (minus 1) none; start = 0; wait = None } ∷ [];
         time = 0;
       };
       steps = gives (act_as 1 7 0) (pos 16)

@@ -1,10 +1,8 @@
 -- What the host holds ("What the host holds").
-use Rattle.std.specs.Prelude.{ℕ, zero, suc, ◌+◌, ◌*◌, ◌-◌, List, [], get_or, replicate, ℤ, pos}
+use Rattle.std.specs.Prelude.{ℕ, Option, zero, suc, ◌+◌, ◌*◌, ◌-◌, List, [], get_or, replicate, ℤ, pos, None}
 use Rattle.std.proofs.Math.Seq.{paste}
 use Rattle.model.specs.declared.Set.{Set}
 use Rattle.model.specs.declared.Caller.{Caller}
-use Rattle.model.specs.declared.Wait.{Wait}
-use Rattle.model.specs.declared.Wait.TheVariants.{Endless}
 use Rattle.model.specs.Limits.{slots, semaphores, processes, all_semaphores, all_adjustments}
 
 -- The numbers of every semaphore: its value and its last process, and for each process an undo adjustment.
@@ -22,6 +20,10 @@ with_lasts t lasts = record { values = t.values; lasts = lasts; adjustments = t.
 
 abbrev pub with_adjustments : Table → List ℤ → Table
 with_adjustments t adjustments = record { values = t.values; lasts = t.lasts; adjustments = adjustments }
+
+-- how long a call may sleep: so many milliseconds, or without end
+abbrev pub Wait : Type 0
+Wait = Option ℕ
 
 -- A sleeping call: its process, the slot of its set, the bytes of its array as they came, the time that was last told when it went
 -- to sleep, and its wait.
@@ -91,4 +93,4 @@ abbrev pub no_set : Set
 no_set = free_set 0
 
 abbrev pub no_sleeper : Sleeper
-no_sleeper = record { process = 0; slot = 0; array = []; start = 0; wait = Endless }
+no_sleeper = record { process = 0; slot = 0; array = []; start = 0; wait = None }

@@ -2,10 +2,9 @@
 use Rattle.std.specs.Prelude.{ℕ, zero, suc, ◌+◌, Bool, true, false, List, [], ◌∷◌, ◌++◌, length, get_or, ℤ}
 use Rattle.model.specs.declared.Engine.{Engine}
 use Rattle.model.specs.declared.Engine.TheVariants.{Plain, Quick}
-use Rattle.model.specs.declared.Position.{Position}
 use Rattle.model.specs.declared.Waking.{Waking}
 use Rattle.model.specs.State.{Table, Sleeper, no_sleeper}
-use Rattle.model.specs.Judge.{code_of, decider_of, finishes}
+use Rattle.model.specs.Judge.{code_of, decider_of, finishes, Position}
 use Rattle.model.specs.Look.{look, after, values_of}
 use Rattle.model.specs.Marks.{mine, marked, unmark, mark_touched, differing}
 

@@ -74,19 +74,11 @@ pub struct Operation {
     pub flags: u16,
 }
 
-// What an amount makes of a value.
+// Why an amount makes no new value: it would be over 32,767, or the operation stops.
 #[derive(Clone, Copy)]
-pub enum Next {
+pub enum Halt {
     Over,
     Stop,
-    To(u16),
-}
-
-// What an amount makes of an adjustment.
-#[derive(Clone, Copy)]
-pub enum Undo {
-    Out,
-    To(i16),
 }
 
 // What judging an array comes to.
@@ -99,11 +91,7 @@ pub enum Outcome {
 }
 
 // The operation that decided how an array was judged, by its position from 0; or that none did.
-#[derive(Clone, Copy)]
-pub enum Position {
-    Nowhere,
-    At(u8),
-}
+pub type Position = Option<u8>;
 
 // The copy that an array is judged on: a set's values, and the caller's adjustments for them.
 #[derive(Clone, Copy)]
@@ -121,12 +109,8 @@ pub struct Judged {
     pub copies: Copies,
 }
 
-// How long a call may sleep: without end, or so many milliseconds.
-#[derive(Clone, Copy)]
-pub enum Wait {
-    Endless,
-    Milliseconds(u32),
-}
+// How long a call may sleep: so many milliseconds, or without end.
+pub type Wait = Option<u32>;
 
 // Which waking rule an event goes by.
 #[derive(Clone, Copy)]

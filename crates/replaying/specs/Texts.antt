@@ -2,7 +2,6 @@
 -- the last line.
 use Rattle.std.specs.Prelude.{ℕ, ◌≤◌, ◌≡◌, List, [], ◌++◌, ℤ, length, take}
 use Rattle.model.specs.declared.Engine.{Engine}
-use Rattle.model.specs.declared.Position.{Position}
 use Rattle.model.specs.declared.Waking.{Waking}
 use Rattle.model.specs.State.{fresh_state}
 use Rattle.model.specs.Runs.{run}
@@ -10,6 +9,7 @@ use Rattle.host.specs.Holding.{host_of}
 use Rattle.runfile.specs.File.{File, file_of}
 use Rattle.lines.specs.Text.{bad_line, event_text, query_text, read_text}
 use Rattle.replaying.specs.Replay.{first_line, events_in, replayed, Stage, last_stage, begun, texts_from}
+use Rattle.model.specs.Judge.{Position}
 
 -- a whole line of the quick and of the plain engine: the same first line, the same line of a query or of a reading, or lines of an
 -- event that differ in the looks alone

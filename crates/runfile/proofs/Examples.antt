@@ -4,13 +4,13 @@ use mathlib.Core.Path.{◌≡◌, refl}
 use mathlib.Core.List.{List, [], ◌∷◌}
 use lib.IntN.{pos, negsuc}
 use lib.ListN.{length, replicate}
-use Rattle.model.specs.declared.Wait.TheVariants.{Endless, Milliseconds}
 use Rattle.model.specs.Events.{create, operate, set_value, remove, query, set_all, read_all, clock, act_as}
 use Rattle.model.specs.Values.{signed32}
 use Rattle.runfile.specs.Fields.{word_at, long_at}
 use Rattle.runfile.specs.Table.{count_in, entries_from, chains}
 use Rattle.runfile.specs.Body.{fixed_of, each_of, size_in, event_in, handed_in, handed_at, body_code}
 use Rattle.runfile.specs.File.{file_of, events_of, bad, good, bad_code, code_of_file}
+use Rattle.std.specs.Prelude.{Some, None}
 
 -- "Whole example", 45 bytes: a create by process 1 with the mode 0o666
 abbrev pub example : List ℕ
@@ -26,8 +26,8 @@ example =
 whole : file_of example
     ≡ good
     (create 1 1 438
-    ∷ operate 1 (pos 0) Endless (0 ∷ 0 ∷ 255 ∷ 255 ∷ 0 ∷ 0 ∷ [])
-    ∷ operate 2 (pos 0) Endless (0 ∷ 0 ∷ 1 ∷ 0 ∷ 0 ∷ 0 ∷ [])
+    ∷ operate 1 (pos 0) None (0 ∷ 0 ∷ 255 ∷ 255 ∷ 0 ∷ 0 ∷ [])
+    ∷ operate 2 (pos 0) None (0 ∷ 0 ∷ 1 ∷ 0 ∷ 0 ∷ 0 ∷ [])
     ∷ [])
 unfolding word_at signed32 count_in entries_from chains fixed_of each_of size_in handed_in event_in body_code file_of events_of
 whole = refl
@@ -69,7 +69,7 @@ waits =
     ∷ 8 ∷ 1 ∷ 4 ∷ 0 ∷ 0 ∷ 0 ∷ 255 ∷ 255 ∷ 255 ∷ 255 ∷ 1 ∷ 0 ∷ 0 ∷ 255 ∷ 255 ∷ 0 ∷ 0
     ∷ 9 ∷ 1 ∷ 0 ∷ 0 ∷ 0 ∷ 0 ∷ 0 ∷ 0 ∷ 128 ∷ []
 
-timed : file_of waits ≡ good (operate 1 (pos 4) (Milliseconds 4294967295) (0 ∷ 0 ∷ 255 ∷ 255 ∷ 0 ∷ 0 ∷ []) ∷ clock 9223372036854775809 ∷ [])
+timed : file_of waits ≡ good (operate 1 (pos 4) (Some 4294967295) (0 ∷ 0 ∷ 255 ∷ 255 ∷ 0 ∷ 0 ∷ []) ∷ clock 9223372036854775809 ∷ [])
 unfolding waits word_at long_at signed32 count_in entries_from chains fixed_of each_of size_in handed_in event_in body_code file_of events_of
 timed = refl
 

@@ -3,8 +3,7 @@
 --
 -- A new kind has its two numbers here, a line in `fixed_of` and one in `event_in`; where bytes of the body are handed on beside
 -- its event, it is in `each_of` too.
-use Rattle.std.specs.Prelude.{ℕ, zero, suc, ◌+◌, ◌*◌, ◌-◌, cond, List, [], ◌∷◌, eqb, ℤ, pos, take, drop}
-use Rattle.model.specs.declared.Wait.TheVariants.{Endless, Milliseconds}
+use Rattle.std.specs.Prelude.{ℕ, zero, suc, ◌+◌, ◌*◌, ◌-◌, cond, List, [], ◌∷◌, eqb, ℤ, pos, take, drop, Some, None}
 use Rattle.model.specs.Limits.{operation_bytes, value_bytes}
 use Rattle.model.specs.Events.{Event, create, operate, set_value, remove, signal, exit, query, set_all, read_all, clock, act_as}
 use Rattle.runfile.specs.Fields.{byte_at, half_at, word_at, long_at, signed_at}
@@ -149,13 +148,13 @@ handed_in body = take (each_of (kind_in body) * number_in body) (drop (fixed_of 
 unfoldable pub event_in : List ℕ → Event
 event_in body =
     cond (eqb (kind_in body) create_kind) (create (process_in body) (byte_at body 2) (half_at body 3))
-    (cond (eqb (kind_in body) operate_kind) (operate (process_in body) (identifier_in body) Endless (handed_in body))
+    (cond (eqb (kind_in body) operate_kind) (operate (process_in body) (identifier_in body) None (handed_in body))
     (cond (eqb (kind_in body) set_value_kind) (set_value (process_in body) (identifier_in body) (half_at body 6) (signed_at body 8))
     (cond (eqb (kind_in body) remove_kind) (remove (process_in body) (identifier_in body))
     (cond (eqb (kind_in body) signal_kind) (signal (process_in body))
     (cond (eqb (kind_in body) exit_kind) (exit (process_in body))
     (cond (eqb (kind_in body) query_kind) (query (process_in body) (identifier_in body) (half_at body 6))
-    (cond (eqb (kind_in body) operate_within_kind) (operate (process_in body) (identifier_in body) (Milliseconds (word_at body 6)) (handed_in body))
+    (cond (eqb (kind_in body) operate_within_kind) (operate (process_in body) (identifier_in body) (Some (word_at body 6)) (handed_in body))
     (cond (eqb (kind_in body) clock_kind) (clock (long_at body 1))
     (cond (eqb (kind_in body) set_all_kind) (set_all (process_in body) (identifier_in body) (handed_in body))
     (cond (eqb (kind_in body) read_all_kind) (read_all (process_in body) (identifier_in body))

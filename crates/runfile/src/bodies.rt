@@ -185,7 +185,7 @@ fn event_in(body: &[u8]) -> Event
         OPERATE => Event::Operate {
             process,
             identifier,
-            wait: Wait::Endless,
+            wait: None,
         },
         SET_VALUE => Event::SetValue {
             process,
@@ -207,7 +207,7 @@ fn event_in(body: &[u8]) -> Event
         OPERATE_WITHIN => Event::Operate {
             process,
             identifier,
-            wait: Wait::Milliseconds(word_at(body, 6)),
+            wait: Some(word_at(body, 6)),
         },
         CLOCK => Event::Clock {
             time: long_at(body, 1),

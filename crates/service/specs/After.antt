@@ -1,8 +1,6 @@
 -- What an event leaves and answers: the host, the list of wakings, and what it tells.
-use Rattle.std.specs.Prelude.{ℕ, ◌*◌, List, [], length, take, ℤ}
+use Rattle.std.specs.Prelude.{ℕ, ◌*◌, List, [], length, take, ℤ, None}
 use Rattle.std.proofs.lemmas.List.Edits.{sets}
-use Rattle.model.specs.declared.Position.{Position}
-use Rattle.model.specs.declared.Position.TheVariants.{Nowhere}
 use Rattle.model.specs.declared.Told.{Told}
 use Rattle.model.specs.declared.Queried.{Queried}
 use Rattle.model.specs.declared.Reading.{Reading}
@@ -11,6 +9,7 @@ use Rattle.model.specs.declared.Reply.TheVariants as reply
 use Rattle.model.specs.Events.{Event, Form, as_told, as_seen, as_read, form_of, Answer, Result, numbers_of}
 use Rattle.host.specs.Holding.{Host, host_of, host_in}
 use Rattle.wakings.specs.Wakings.{Place, places_in, list_of}
+use Rattle.model.specs.Judge.{Position}
 
 pub record After : Type 0 where
   pub host : Host
@@ -31,7 +30,7 @@ told_of r = telling_at r.answer.code r.answer.position r.answer.value r.looks (l
 
 -- .. where no operation decided
 abbrev pub telling : ℤ → ℕ → ℕ → ℕ → Told
-telling code value looks woken = telling_at code Nowhere value looks woken
+telling code value looks woken = telling_at code None value looks woken
 
 abbrev pub after_of : Result → After
 after_of r = record { host = host_of r.state; wakings = list_of r.wakings; told = told_of r }

@@ -5,11 +5,10 @@ use Rattle.model.specs.declared.Engine.TheVariants.{Plain, Quick}
 use Rattle.model.specs.declared.Event as declared
 use Rattle.model.specs.declared.Queried.{Queried}
 use Rattle.model.specs.declared.Reading.{Reading}
-use Rattle.model.specs.declared.Wait.{Wait}
 use Rattle.model.specs.declared.Reply.{Reply}
 use Rattle.model.specs.declared.Reply.TheVariants as reply
 use Rattle.model.specs.Limits.{semaphores}
-use Rattle.model.specs.State.{fresh_state}
+use Rattle.model.specs.State.{fresh_state, Wait}
 use Rattle.model.specs.Waking.{waker}
 use Rattle.model.specs.Events.{Event, create, operate, set_value, remove, signal, exit, query, set_all, read_all, clock, act_as, event_of, Result, event, do_create, do_operate, do_set_value, do_remove, do_signal, do_exit, do_query, do_set_all, do_read_all, do_clock, do_act_as}
 use Rattle.model.specs.Runs.{run, All, Pairwise, Stuck, InTime}

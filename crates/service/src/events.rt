@@ -24,7 +24,7 @@ fn quiet(code: u8, value: u32) -> Told
     ensures { result ≡ telling (pos code) value 0 0 }
 {
     Told {
-        position: Position::Nowhere,
+        position: None,
         code: answer(code),
         value: value,
         looks: 0,
@@ -50,7 +50,7 @@ fn told(tally: Tally) -> Told
     ensures { result ≡ telling (pos 0) 0 tally.looks tally.woken }
 {
     Told {
-        position: Position::Nowhere,
+        position: None,
         code: 0,
         value: 0,
         looks: tally.looks,

@@ -8,7 +8,6 @@ use mathlib.Core.List.{List, [], ◌∷◌, ◌++◌, append-nil}
 use lib.ListN.{length, get_or, take, drop, set, length-append, drop_of_length-le}
 use lib.Seq.{take_all, take-suc, drop-cons, append_snoc, take_at, drop_at, length-take-le}
 use lib.IntN.{ℤ}
-use Rattle.model.specs.declared.Position.TheVariants.{Nowhere}
 use Rattle.model.specs.declared.Waking.{Waking}
 use Rattle.model.specs.Limits.{processes}
 use Rattle.model.specs.State.{Sleeper, no_sleeper}
@@ -23,6 +22,7 @@ use Rattle.wakings.specs.Wakings.{Place, place_of, list_of}
 use Rattle.wakings.proofs.ListLaws.{noted}
 use Rattle.service_queue.proofs.MovingLaws.{without_split}
 use Rattle.service_queue.proofs.QueueHeldLaws.{queue_again, shows, row_with, process_is, sleeper_is}
+use Rattle.std.specs.Prelude.{None}
 
 -- ---- who is kept and who is ended, at a position of a queue
 
@@ -46,7 +46,7 @@ module _ (test : Sleeper → Bool) (q : List Sleeper) (i : ℕ) (h : i < length 
   ended_passes code e = rw (add-one, drop-cons q i no_sleeper h, ended_with, e)
 
   ended_leaves : (code : ℤ) → test (get_or q i no_sleeper) ≡ true
-      → ended_with code test (drop i q) ≡ waking (get_or q i no_sleeper).process code Nowhere ∷ ended_with code test (drop i (without q i))
+      → ended_with code test (drop i q) ≡ waking (get_or q i no_sleeper).process code None ∷ ended_with code test (drop i (without q i))
   unfolding ended_with
   ended_leaves code e = rw (drop_without, drop-cons q i no_sleeper h, ended_with, e)
 
@@ -81,9 +81,9 @@ module _ (code : ℤ) (test : Sleeper → Bool) where
             told = ap (λ (w : List Waking). ended ++ w) (sym (ended_passes test q i h code e)) ∙ v.told;
           }
 
-      passed_one : test (get_or q i no_sleeper) ≡ true → Passed q₀ (without q i) (ended ++ waking (get_or q i no_sleeper).process code Nowhere ∷ []) i
+      passed_one : test (get_or q i no_sleeper) ≡ true → Passed q₀ (without q i) (ended ++ waking (get_or q i no_sleeper).process code None ∷ []) i
       passed_one e =
-          let w : Waking = waking (get_or q i no_sleeper).process code Nowhere in
+          let w : Waking = waking (get_or q i no_sleeper).process code None in
           record {
             within = omega (arith, length_without q i h);
             room = omega (arith, v.room, length-append ended (w ∷ []), length_without q i h);
@@ -144,16 +144,16 @@ module _ (code : ℤ) (test : Sleeper → Bool) where
         pub one_less : length (queue_in r') + 1 ≡ length (queue_in r)
         one_less = ap (λ (q : List Sleeper). length q + 1) now ∙ length_without (queue_in r) i h
 
-        pub ended_one : {wakings' : List Place} → test (sleeper_in r p) ≡ true → wakings' ≡ set wakings woken (place_of (waking p code Nowhere)) → Ended r₀ r' wakings' (woken + 1) i
+        pub ended_one : {wakings' : List Place} → test (sleeper_in r p) ≡ true → wakings' ≡ set wakings woken (place_of (waking p code None)) → Ended r₀ r' wakings' (woken + 1) i
         ended_one {wakings'} e ew =
             let s : Sleeper = get_or (queue_in r) i no_sleeper in
-            let w : Waking = waking s.process code Nowhere in
-            let here : waking p code Nowhere ≡ w = ap (λ (n : ℕ). waking n code Nowhere) (ep ∙ process_is v.holding i h) in
+            let w : Waking = waking s.process code None in
+            let here : waking p code None ≡ w = ap (λ (n : ℕ). waking n code None) (ep ∙ process_is v.holding i h) in
             record {
               holding = row_with r er fits;
               same = er ∙ ap (λ (x : Row). with_queue x (without (queue_in r) i)) v.same ∙ queue_again r₀ (queue_in r) (without (queue_in r) i) ∙ ap (with_queue r₀) (sym now);
               ended = v.ended ++ w ∷ [];
-              listed = ew ∙ ap₂ (λ (l : List Place) (k : ℕ). set l k (place_of (waking p code Nowhere))) v.listed v.count ∙ ap (λ (x : Waking). set (list_of v.ended) (length v.ended) (place_of x)) here ∙ noted v.ended w (omega (arith, v.passed.room));
+              listed = ew ∙ ap₂ (λ (l : List Place) (k : ℕ). set l k (place_of (waking p code None))) v.listed v.count ∙ ap (λ (x : Waking). set (list_of v.ended) (length v.ended) (place_of x)) here ∙ noted v.ended w (omega (arith, v.passed.room));
               count = ap (λ (n : ℕ). n + 1) v.count ∙ sym (length-append v.ended (w ∷ []));
               passed = subst (λ (q : List Sleeper). Passed (queue_in r₀) q (v.ended ++ w ∷ []) i) (sym now) (passed_one v.passed h (here_too e));
             }

@@ -164,7 +164,7 @@ pub fn end_all(
         let process = process_at(&*host, i);
         if is_ended(&*host, process, ending) {
             take_out(&mut *host, i);
-            note(&mut *wakings, woken, process, code, Position::Nowhere);
+            note(&mut *wakings, woken, process, code, None);
             woken += 1;
         } else {
             i += 1;

@@ -7,7 +7,6 @@ use mathlib.Core.List.{List, [], ◌∷◌, ◌++◌}
 use lib.IntN.{ℤ, pos}
 use lib.ListN.{length, get_or, set}
 use Rattle.model.specs.declared.Set.{Set}
-use Rattle.model.specs.declared.Position.{Position}
 use Rattle.model.specs.declared.Waking.{Waking}
 use Rattle.model.specs.declared.Operation.{Operation}
 use Rattle.model.specs.declared.Copies.{Copies}
@@ -16,7 +15,7 @@ use Rattle.model.specs.declared.Outcome.{Outcome}
 use Rattle.model.specs.declared.Outcome.TheVariants.{Done, Sleep, Again, Range}
 use Rattle.model.specs.Limits.{semaphores, processes}
 use Rattle.model.specs.State.{Table, Sleeper, no_sleeper}
-use Rattle.model.specs.Judge.{code_of, decided_at, decider_of}
+use Rattle.model.specs.Judge.{code_of, decided_at, decider_of, Position}
 use Rattle.model.specs.Look.{look, after, applied}
 use Rattle.model.specs.Waking.{World, finish, without, waking}
 use Rattle.model.specs.Invariant.{Fits, Calm, count_at}

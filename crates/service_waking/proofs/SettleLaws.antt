@@ -7,13 +7,12 @@ use mathlib.Core.List.{List}
 use lib.IntN.{ℤ, pos, nat_abs}
 use lib.ListN.{length, get_or, set}
 use Rattle.model.specs.declared.Copies.{Copies}
-use Rattle.model.specs.declared.Position.{Position}
 use Rattle.model.specs.declared.Outcome.{Outcome}
 use Rattle.model.specs.declared.Outcome.TheVariants.{Done, Sleep, Again, Range}
 use Rattle.model.specs.Limits.{semaphores, processes}
 use Rattle.model.specs.State.{Table, Sleeper, no_sleeper, row}
 use Rattle.model.specs.Operation.{operations_of}
-use Rattle.model.specs.Judge.{judged, code_of, decided_at, finishes}
+use Rattle.model.specs.Judge.{judged, code_of, decided_at, finishes, Position}
 use Rattle.model.specs.Look.{after, values_of, adjustments_of}
 use Rattle.model.specs.Marks.{named}
 use Rattle.model.specs.Waking.{without, waking, finish}

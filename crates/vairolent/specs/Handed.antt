@@ -1,25 +1,23 @@
 -- What an event leaves and tells, as a caller in another language has it.
-use Rattle.std.specs.Prelude.{ℕ, Bool, true, false, cond, List, ℤ}
-use Rattle.model.specs.declared.Position.{Position}
-use Rattle.model.specs.declared.Position.TheVariants.{Nowhere, At}
+use Rattle.std.specs.Prelude.{ℕ, Bool, true, false, cond, List, ℤ, Some, None}
 use Rattle.model.specs.declared.Told.{Told}
-use Rattle.model.specs.declared.Wait.{Wait}
-use Rattle.model.specs.declared.Wait.TheVariants.{Endless, Milliseconds}
 use Rattle.host.specs.Holding.{Host, host_in}
 use Rattle.wakings.specs.Wakings.{Place, places_in}
 use Rattle.service.specs.After.{After, telling_at}
 use Rattle.vairolent.specs.declared.Decided.{Decided}
 use Rattle.vairolent.specs.declared.Reported.{Reported}
+use Rattle.model.specs.Judge.{Position}
+use Rattle.model.specs.State.{Wait}
 
 -- the operation that decided: whether there is one, and its position, 0 if there is none
 abbrev pub decided_of : Position → Decided
-decided_of Nowhere = record { there = false; at = 0 }
-decided_of (At k) = record { there = true; at = k }
+decided_of None = record { there = false; at = 0 }
+decided_of (Some k) = record { there = true; at = k }
 
 -- the wait of an operate: whether there is one, and its milliseconds
 abbrev pub wait_by : Bool → ℕ → Wait
-wait_by true n = Milliseconds n
-wait_by false n = Endless
+wait_by true n = Some n
+wait_by false n = None
 
 -- all that an event tells
 abbrev pub report_of : Told → Reported
@@ -41,7 +39,7 @@ handed_of y = record { host = y.host; wakings = y.wakings; reported = report_of 
 -- ---- read back
 
 abbrev pub position_by : Decided → Position
-position_by d = cond d.there (At d.at) Nowhere
+position_by d = cond d.there (Some d.at) None
 
 abbrev pub told_by : Reported → Told
 told_by r = telling_at r.code (position_by r.position) r.value r.looks r.woken

@@ -99,11 +99,11 @@ fn decided_of(position: Position) -> Decided
     ensures { result ≡ decided_of position }
 {
     match position {
-        Position::Nowhere => Decided {
+        None => Decided {
             there: false,
             at: 0,
         },
-        Position::At(number) => Decided {
+        Some(number) => Decided {
             there: true,
             at: number,
         },
@@ -129,9 +129,9 @@ fn wait_of(waits: bool, wait: u32) -> Wait
     ensures { result ≡ wait_by waits wait }
 {
     if waits {
-        Wait::Milliseconds(wait)
+        Some(wait)
     } else {
-        Wait::Endless
+        None
     }
 }
 

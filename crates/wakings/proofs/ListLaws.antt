@@ -11,11 +11,12 @@ use lib.ListN.{length, get_or, set, take, replicate, length-append, length-set, 
 use lib.Seq.{get_or-set_same, get_or-set_other, set_out, set-append_seam, append_snoc, take-append_seam, ext_get_or}
 use lib.IntN.{ℤ, pos, nat_abs}
 use borrow.Author.Tests.{eqb-true, eqb-false}
-use Rattle.model.specs.declared.Position.{Position}
-use Rattle.model.specs.declared.Position.TheVariants.{Nowhere, At}
 use Rattle.model.specs.declared.Waking.{Waking}
 use Rattle.model.specs.Limits.{processes}
-use Rattle.wakings.specs.Wakings.{Place, place_at, places_from, places_in, place_of, position_in, waking_in, no_waking, list_of, wakings_in}
+use Rattle.wakings.specs.Wakings.{Place, place_at, places_from, places_in, place_of, decided_byte, position_byte, position_in, waking_in, no_waking, list_of, wakings_in}
+use mir.Val.{bool_byte}
+use Rattle.std.specs.Prelude.{is_some, unwrap_or, Some, None}
+use Rattle.model.specs.Judge.{Position}
 
 -- ---- reading
 
@@ -44,11 +45,11 @@ pub at_none : (l : List ℕ) (k : ℕ) → processes ≤ k → get_or (places_in
 at_none l k h = get_or-eq_default (places_in l) no_waking (omega (arith, length_in l))
 
 -- a place that has an operation, and one that has none
-pub there_is : (n k : ℕ) → n ≢ 0 → position_in n k ≡ At k
+pub there_is : (n k : ℕ) → n ≢ 0 → position_in n k ≡ Some k
 there_is zero k h = absurd (h refl)
 there_is (suc n) k h = refl
 
-pub there_is_none : (n k : ℕ) → n ≡ 0 → position_in n k ≡ Nowhere
+pub there_is_none : (n k : ℕ) → n ≡ 0 → position_in n k ≡ None
 there_is_none n k e = rw e
 
 -- two lists with the same at every place are the same bytes
@@ -168,6 +169,16 @@ module _ (l : List ℕ) (k p c d n : ℕ) where
 pub not_stored : (l : List ℕ) (k : ℕ) (x : Place) → processes ≤ k → places_in l ≡ set (places_in l) k x
 not_stored l k x h = sym (set_out (places_in l) k x (omega (arith, length_in l)))
 
+-- ---- what the code asks of a position
+
+pub decided_is : (p : Position) → bool_byte (is_some p) ≡ decided_byte p
+decided_is None = refl
+decided_is (Some k) = refl
+
+pub position_is : (p : Position) → unwrap_or p 0 ≡ position_byte p
+position_is None = refl
+position_is (Some k) = refl
+
 -- ---- a list in which wakings are noted
 
 length_places : (ws : List Waking) → length (map place_of ws) ≡ length ws
@@ -191,8 +202,8 @@ back : (w : Waking) → waking_in (place_of w) ≡ w
 back w = by w.position refl
   where
     by : (x : Position) → w.position ≡ x → waking_in (place_of w) ≡ w
-    by Nowhere e = rw e
-    by (At k) e = rw e
+    by None e = rw e
+    by (Some k) e = rw e
 
 -- the wakings, from the list and their number
 pub take_listed : (ws : List Waking) → wakings_in (length ws) (list_of ws) ≡ ws

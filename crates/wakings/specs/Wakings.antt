@@ -1,11 +1,10 @@
 -- The wakings of an event in the list of bytes that it is lent: eight places of four bytes each, a process, its code, whether an
 -- operation decided (1, else 0), and its position.
-use Rattle.std.specs.Prelude.{ℕ, zero, suc, ◌+◌, ◌*◌, ◌-◌, List, [], ◌∷◌, ◌++◌, map, length, take, get_or, replicate, ℤ, pos}
-use Rattle.model.specs.declared.Position.{Position}
-use Rattle.model.specs.declared.Position.TheVariants.{Nowhere, At}
+use Rattle.std.specs.Prelude.{ℕ, zero, suc, ◌+◌, ◌*◌, ◌-◌, List, [], ◌∷◌, ◌++◌, map, length, take, get_or, replicate, ℤ, pos, Some, None}
 use Rattle.model.specs.declared.Waking.{Waking}
 use Rattle.model.specs.Limits.{processes}
 use Rattle.model.specs.Waking.{waking}
+use Rattle.model.specs.Judge.{Position}
 
 -- what stands at a place
 pub record Place : Type 0 where
@@ -36,12 +35,12 @@ places_in l = places_from processes 0 l
 
 -- whether an operation decided, as a number; and its position, 0 if none did
 abbrev pub decided_byte : Position → ℕ
-decided_byte Nowhere = 0
-decided_byte (At k) = 1
+decided_byte None = 0
+decided_byte (Some k) = 1
 
 abbrev pub position_byte : Position → ℕ
-position_byte Nowhere = 0
-position_byte (At k) = k
+position_byte None = 0
+position_byte (Some k) = k
 
 -- a waking as a place has it
 abbrev pub place_of : Waking → Place
@@ -49,8 +48,8 @@ place_of w = record { process = w.process; code = w.code; decided = decided_byte
 
 -- .. and the waking that a place has
 abbrev pub position_in : ℕ → ℕ → Position
-position_in zero k = Nowhere
-position_in (suc n) k = At k
+position_in zero k = None
+position_in (suc n) k = Some k
 
 abbrev pub waking_in : Place → Waking
 waking_in x = waking x.process x.code (position_in x.decided x.position)

@@ -8,7 +8,7 @@
 
 ghost use Rattle.std.specs.Prelude.{◌≡◌, [], get_or, set, pos};
 ghost use Rattle.model.specs.Waking.{waking};
-ghost use Rattle.wakings.specs.Wakings.{places_in, place_of, waking_in, no_waking, list_of, decided_byte, position_byte};
+ghost use Rattle.wakings.specs.Wakings.{places_in, place_of, waking_in, no_waking, list_of};
 
 use model::{ONE_WAKING, PROCESSES, Position, WAKING_BYTES};
 
@@ -17,26 +17,6 @@ pub fn clear(list: &mut [u8; WAKING_BYTES])
     ensures { places_in list.new ≡ list_of [] }
 {
     *list = [0u8; WAKING_BYTES];
-}
-
-// Whether an operation decided.
-fn decided_byte(position: Position) -> u8
-    ensures { result ≡ decided_byte position }
-{
-    match position {
-        Position::Nowhere => 0,
-        Position::At(_) => 1,
-    }
-}
-
-// Its position, 0 if none did.
-fn position_byte(position: Position) -> u8
-    ensures { result ≡ position_byte position }
-{
-    match position {
-        Position::Nowhere => 0,
-        Position::At(number) => number,
-    }
 }
 
 // Writes a waking to a place; beyond the last nothing is written.
@@ -48,8 +28,8 @@ pub fn note(list: &mut [u8; WAKING_BYTES], count: usize, process: u8, code: u8, 
         let at = ONE_WAKING * count;
         all[at] = process;
         all[at + 1] = code;
-        all[at + 2] = decided_byte(position);
-        all[at + 3] = position_byte(position);
+        all[at + 2] = position.is_some() as u8;
+        all[at + 3] = position.unwrap_or(0);
     }
 }
 
@@ -79,8 +59,8 @@ pub fn position_of(list: &[u8; WAKING_BYTES], at: usize) -> Position
 {
     if at < PROCESSES {
         if list[ONE_WAKING * at + 2] != 0 {
-            return Position::At(list[ONE_WAKING * at + 3]);
+            return Some(list[ONE_WAKING * at + 3]);
         }
     }
-    Position::Nowhere
+    None
 }

@@ -4,7 +4,6 @@ use lib.IntN.{ℤ, pos}
 use borrow.Author.Tests.{eq-eqb}
 use Rattle.model.specs.declared.Engine.TheVariants.{Quick}
 use Rattle.model.specs.State.{fresh_state}
-use Rattle.model.specs.declared.Wait.TheVariants.{Endless}
 use Rattle.model.specs.Events.{create, operate, do_create}
 use Rattle.model.specs.Runs.{start}
 use Rattle.host.specs.Parts.{Row}
@@ -14,6 +13,7 @@ use Rattle.service.specs.Calls.{creates, operates, Called, no_call, and_call}
 use Rattle.example.proofs.Events.{take, give, created, slept, given, after_create, after_sleep, held, is_created, is_slept, is_given, slept_looks, given_looks, given_wakings}
 use Rattle.example.proofs.main.Goals as goal
 use Rattle.example.proofs.main.Goals.{After-create, After-operate-asleep, After-operate-given}
+use Rattle.std.specs.Prelude.{None}
 
 -- ---- what each event leaves
 
@@ -46,12 +46,12 @@ behind_operate2 c =
 
 -- The three are calls in a row, from a fresh host on: what is proved of such (crates/service/proofs/Calls.antt) holds of them.
 called : (c : After-operate-given) → let a = c.operate-given in let b = c.operate-asleep in let d = c.create in
-    Called Quick (host_of fresh_state) (create 1 1 511 ∷ operate 1 (pos 0) Endless take ∷ operate 2 (pos 0) Endless give ∷ [])
+    Called Quick (host_of fresh_state) (create 1 1 511 ∷ operate 1 (pos 0) None take ∷ operate 2 (pos 0) None give ∷ [])
     (tells (after_in d.new.host d.new.adjustments d.new.wakings d.result) ∷ tells (after_in b.new.host b.new.adjustments b.new.wakings b.result) ∷ tells (after_in a.new.host a.new.adjustments a.new.wakings a.result) ∷ [])
 called c =
     and_call (creates 1 1 511 _ (c.create.ensures ∙ ap (λ (x : Host). after_of (do_create (state_in x) 1 1 511)) (is_fresh c.fresh-host.ensures c.no_adjustments-adjustments.ensures)))
-    (and_call (operates 1 (pos 0) Endless take _ c.operate-asleep.ensures)
-    (and_call (operates 2 (pos 0) Endless give _ c.operate-given.ensures)
+    (and_call (operates 1 (pos 0) None take _ c.operate-asleep.ensures)
+    (and_call (operates 2 (pos 0) None give _ c.operate-given.ensures)
     no_call))
 
 -- ---- the needs

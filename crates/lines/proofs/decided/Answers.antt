@@ -9,17 +9,17 @@ use Rattle.lines.proofs.decided.Goals as goal
 
 pub marked-requires : goal.marked-requires
 marked-requires c =
-    let n : Fits w8 c.in-At.number = search rules in
+    let n : Fits w8 c.in-Some.number = search rules in
     omega (arith, digits_fit w8 2 tt n)
 
-pub returns-in-Nowhere : goal.returns-in-Nowhere
+pub returns-in-None : goal.returns-in-None
 unfolding position_text
-returns-in-Nowhere c =
+returns-in-None c =
     let a = c.args in
-    rw c.in-Nowhere.is (at_most (nothing a.out.now a.at (search rules)) (omega arith))
+    rw c.in-None.is (at_most (nothing a.out.now a.at (search rules)) (omega arith))
 
-pub returns-in-At : goal.returns-in-At
+pub returns-in-Some : goal.returns-in-Some
 unfolding position_text
-returns-in-At c =
-    let n : Fits w8 c.in-At.number = search rules in
-    rw c.in-At.is (record { put = c.marked.ensures; short = omega (arith, digits_fit w8 2 tt n) })
+returns-in-Some c =
+    let n : Fits w8 c.in-Some.number = search rules in
+    rw c.in-Some.is (record { put = c.marked.ensures; short = omega (arith, digits_fit w8 2 tt n) })

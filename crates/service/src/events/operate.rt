@@ -30,8 +30,8 @@ fn at_once(wait: Wait) -> bool
     ensures { result ≡ at_once wait }
 {
     match wait {
-        Wait::Endless => false,
-        Wait::Milliseconds(number) => number == 0,
+        None => false,
+        Some(number) => number == 0,
     }
 }
 

@@ -29,6 +29,6 @@ pub fn signal(
     if !leave(host, process) {
         return quiet(0, 0);
     }
-    note(wakings, 0, process, 4, Position::Nowhere);
+    note(wakings, 0, process, 4, None);
     told(Tally { looks: 0, woken: 1 })
 }

@@ -4,7 +4,7 @@ use borrow.Author.Rules.{rules}
 use lib.IntN.{pos}
 use Rattle.model.specs.Waking.{waking}
 use Rattle.wakings.specs.Wakings.{place_of}
-use Rattle.wakings.proofs.ListLaws.{stored, not_stored}
+use Rattle.wakings.proofs.ListLaws.{stored, not_stored, decided_is, position_is}
 use Rattle.wakings.proofs.note.Goals as goal
 
 pub bounds-all-at-then-count-lt-PROCESSES : goal.bounds-all-at-then-count-lt-PROCESSES
@@ -18,7 +18,7 @@ bounds-all-at-then-count-lt-PROCESSES-3 c = simp length-set (omega arith)
 
 pub returns-then-count-lt-PROCESSES : goal.returns-then-count-lt-PROCESSES
 returns-then-count-lt-PROCESSES c = let a = c.args in
-    rw (c.position_byte.ensures, c.decided_byte.ensures)
+    rw (c.unwrap_or.ensures, c.is_some.ensures, decided_is a.position, position_is a.position)
     (stored a.list.now a.count a.process a.code _ _ (search rules) (search rules))
 
 pub returns-else-count-lt-PROCESSES : goal.returns-else-count-lt-PROCESSES

@@ -1,10 +1,10 @@
 use Rattle.host.specs.Waits.{wait_number}
 use Rattle.host.proofs.waits.wait_number.Goals as goal
 
-pub returns-in-Endless : goal.returns-in-Endless
+pub returns-in-None : goal.returns-in-None
 unfolding wait_number
-returns-in-Endless c = rw c.in-Endless.is
+returns-in-None c = rw c.in-None.is
 
-pub returns-in-Milliseconds : goal.returns-in-Milliseconds
+pub returns-in-Some : goal.returns-in-Some
 unfolding wait_number
-returns-in-Milliseconds c = rw c.in-Milliseconds.is
+returns-in-Some c = rw c.in-Some.is

@@ -2,13 +2,13 @@ use Prim.Native.Nat.{ℕ}
 use mathlib.Core.Path.{◌≡◌, refl}
 use Rattle.model.specs.declared.Outcome.{Outcome}
 use Rattle.model.specs.declared.Outcome.TheVariants.{Done, Sleep, Again, Range}
-use Rattle.model.specs.declared.Position.TheVariants.{At}
+use Rattle.std.specs.Prelude.{Some}
 use Rattle.model.specs.Judge.{decided_at}
 use Rattle.judging.proofs.outcome.decided.Goals as goal
 
 -- By the four outcomes.
 -- any but `Done`
-other : (x : Outcome) (n : ℕ) → (x ≡ Done → ⊥) → At n ≡ decided_at x n
+other : (x : Outcome) (n : ℕ) → (x ≡ Done → ⊥) → Some n ≡ decided_at x n
 unfolding decided_at
 other Done n h = absurd (h refl)
 other Sleep n h = refl

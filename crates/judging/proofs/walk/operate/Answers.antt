@@ -1,51 +1,51 @@
 use borrow.Author.Rules.{rules}
-use mathlib.Core.Path.{◌≡◌, sym, ◌∙◌}
+use mathlib.Core.Path.{◌≡◌, sym, ◌∙◌, ap}
 use lib.IntN.{ℤ, pos}
 use lib.ListN.{get_or}
 use Prim.Native.Nat.{ℕ}
 use mir.Syntax.{w16}
 use mir.Val.{SFits, to_z, of_z}
 use mir.Facts.{to_z-of_z}
-use Rattle.model.specs.declared.Next.{Next}
-use Rattle.model.specs.declared.Undo.{Undo}
 use Rattle.model.specs.Judge.{next_value, next_adjustment}
 use Rattle.judging.proofs.Steps as law
 use Rattle.judging.proofs.walk.operate.Goals as goal
-use Rattle.judging.proofs.walk.operate.Goals.{then-with_undo+in-To-next_adjustment, else-with_undo}
+use Rattle.judging.proofs.walk.operate.Goals.{then-with_undo+in-Some, else-with_undo}
+use Rattle.std.specs.Prelude.{Option, Result, Err}
+use Rattle.model.specs.declared.Halt.{Halt}
 
 -- a call's answer, which stands for what the definition says of the numbers as they stand in locals
-value_is : (v : ℕ) (z : ℤ) (r x : Next) → SFits w16 z → r ≡ next_value v (to_z w16 (of_z w16 z)) → r ≡ x → next_value v z ≡ x
+value_is : (v : ℕ) (z : ℤ) (r x : Result ℕ Halt) → SFits w16 z → r ≡ next_value v (to_z w16 (of_z w16 z)) → r ≡ x → next_value v z ≡ x
 value_is v z r x f e is = sym (rw (to_z-of_z f) at e) ∙ is
 
-adjustment_is : (a z : ℤ) (r x : Undo) → SFits w16 a → SFits w16 z → r ≡ next_adjustment (to_z w16 (of_z w16 a)) (to_z w16 (of_z w16 z)) → r ≡ x → next_adjustment a z ≡ x
+adjustment_is : (a z : ℤ) (r x : Option ℤ) → SFits w16 a → SFits w16 z → r ≡ next_adjustment (to_z w16 (of_z w16 a)) (to_z w16 (of_z w16 z)) → r ≡ x → next_adjustment a z ≡ x
 adjustment_is a z r x g f e is = sym (rw (to_z-of_z g, to_z-of_z f) at e) ∙ is
 
-pub returns-in-Out : goal.returns-in-Out
-returns-in-Out c i =
+pub returns-in-None : goal.returns-in-None
+returns-in-None c i =
     let o = c.args.operation in
     law.out _ _ o i _
-    (value_is _ o.amount _ _ (search rules) c.next_value.ensures c.in-To.is)
+    (value_is _ o.amount _ _ (search rules) c.next_value.ensures c.in-Ok.is)
     (sym c.with_undo.ensures ∙ c.if-with_undo.true)
-    (adjustment_is (get_or c.args.adjustments.now o.number (pos 0)) o.amount _ _ (search rules) (search rules) c.next_adjustment.ensures c.in-Out.is)
+    (adjustment_is (get_or c.args.adjustments.now o.number (pos 0)) o.amount _ _ (search rules) (search rules) c.next_adjustment.ensures c.in-None.is)
 
-pub returns-in-Over : goal.returns-in-Over
-returns-in-Over c i =
+pub returns-in-Err-Over : goal.returns-in-Err-Over
+returns-in-Err-Over c i =
     let o = c.args.operation in
-    law.over _ _ o i (value_is _ o.amount _ _ (search rules) c.next_value.ensures c.in-Over.is)
+    law.over _ _ o i (value_is _ o.amount _ _ (search rules) c.next_value.ensures (c.in-Err-Over.is ∙ ap Err c.in-Err-Over.field-0-is))
 
-pub returns-in-Stop : goal.returns-in-Stop
-returns-in-Stop c i =
+pub returns-in-Err-Stop : goal.returns-in-Err-Stop
+returns-in-Err-Stop c i =
     let o = c.args.operation in
-    rw c.stopped.ensures (law.stop _ _ o i (value_is _ o.amount _ _ (search rules) c.next_value.ensures c.in-Stop.is))
+    rw c.stopped.ensures (law.stop _ _ o i (value_is _ o.amount _ _ (search rules) c.next_value.ensures (c.in-Err-Stop.is ∙ ap Err c.in-Err-Stop.field-0-is)))
 
 pub returns-after-with_undo : goal.returns-after-with_undo
 returns-after-with_undo c i =
     let o = c.args.operation in
-    let to = value_is _ o.amount _ _ (search rules) c.next_value.ensures c.in-To.is in
+    let to = value_is _ o.amount _ _ (search rules) c.next_value.ensures c.in-Ok.is in
     elim c.if-with_undo.branch [
-      | then-with_undo+in-To-next_adjustment w ↦
-          let f : SFits w16 w.in-To-next_adjustment.adjustment = search rules in
+      | then-with_undo+in-Some w ↦
+          let f : SFits w16 w.in-Some.adjustment = search rules in
           rw (w.adjustments-is, to_z-of_z f) (law.undoing _ _ o i _ _ to (sym c.with_undo.ensures ∙ w.if-with_undo.true)
-          (adjustment_is (get_or c.args.adjustments.now o.number (pos 0)) o.amount _ _ (search rules) (search rules) w.next_adjustment.ensures w.in-To-next_adjustment.is))
+          (adjustment_is (get_or c.args.adjustments.now o.number (pos 0)) o.amount _ _ (search rules) (search rules) w.next_adjustment.ensures w.in-Some.is))
       | else-with_undo w ↦ rw w.adjustments-is (law.plain _ _ o i _ to (sym c.with_undo.ensures ∙ w.if-with_undo.false))
     ]

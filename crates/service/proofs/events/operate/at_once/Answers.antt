@@ -2,10 +2,10 @@ use Rattle.std.proofs.Common.{rules}
 use Rattle.model.specs.Clock.{at_once}
 use Rattle.service.proofs.events.operate.at_once.Goals as goal
 
-pub returns-in-Endless : goal.returns-in-Endless
+pub returns-in-None : goal.returns-in-None
 unfolding at_once
-returns-in-Endless c = search rules
+returns-in-None c = search rules
 
-pub returns-in-Milliseconds : goal.returns-in-Milliseconds
+pub returns-in-Some : goal.returns-in-Some
 unfolding at_once
-returns-in-Milliseconds c = search rules
+returns-in-Some c = search rules

@@ -5,15 +5,13 @@ use Rattle.model.specs.declared.Copies.{Copies}
 use Rattle.model.specs.declared.Engine.{Engine}
 use Rattle.model.specs.declared.Outcome.{Outcome}
 use Rattle.model.specs.declared.Outcome.TheVariants.{Done, Sleep, Again, Range}
-use Rattle.model.specs.declared.Position.{Position}
 use Rattle.model.specs.declared.Told.{Told}
-use Rattle.model.specs.declared.Wait.{Wait}
 use Rattle.model.specs.Limits.{semaphores, processes, all_semaphores}
-use Rattle.model.specs.State.{Table, Sleeper, row}
+use Rattle.model.specs.State.{Table, Sleeper, row, Wait}
 use Rattle.model.specs.Look.{look, applied, values_of}
 use Rattle.model.specs.Marks.{differing}
 use Rattle.model.specs.Checks.{slot_of, check_operate}
-use Rattle.model.specs.Judge.{code_of, decided_at, decider_of}
+use Rattle.model.specs.Judge.{code_of, decided_at, decider_of, Position}
 use Rattle.model.specs.Waking.{waker}
 use Rattle.model.specs.Clock.{at_once}
 use Rattle.model.specs.Events.{Result, refused_at, call, would_sleep, operated, do_operate}

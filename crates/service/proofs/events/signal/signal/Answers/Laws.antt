@@ -1,7 +1,6 @@
 -- Signal, once no check applies.
 use Rattle.std.proofs.Common.{◌≡◌, ℕ, Bool, true, false, ◌||◌, eqb, ◌≢◌, List, [], ◌∷◌, length, set, ℤ, pos, sym, refl, ap, ◌∙◌, ap₂, arith, ne_eqb, eqb-true}
 use Rattle.model.specs.declared.Told.{Told}
-use Rattle.model.specs.declared.Position.TheVariants.{Nowhere}
 use Rattle.model.specs.declared.Waking.{Waking}
 use Rattle.model.specs.State.{Sleeper}
 use Rattle.model.specs.Checks.{asleep, check_process}
@@ -17,6 +16,7 @@ use Rattle.wakings.proofs.ListLaws.{noted}
 use Rattle.service_waking.proofs.LentLaws.{table_same}
 use Rattle.service.specs.After.{telling, after_of}
 use Rattle.service.proofs.EventLaws.{state_with, held_invariant, host_of_lem, goes_on}
+use Rattle.std.specs.Prelude.{None}
 
 module _ (p : ℕ) (code : ℤ) where
   ended_awake : (q : List Sleeper) → All (λ (s : Sleeper). s.process ≢ p) q → ended_with code (is_of p) q ≡ []
@@ -25,15 +25,15 @@ module _ (p : ℕ) (code : ℤ) where
   ended_awake (s ∷ q) (also h t) = rw (ne_eqb s.process p h) (ended_awake q t)
 
   -- the one sleeper of a process is ended
-  ended_one : (q : List Sleeper) → Distinct q → asleep p q ≡ true → ended_with code (is_of p) q ≡ waking p code Nowhere ∷ []
+  ended_one : (q : List Sleeper) → Distinct q → asleep p q ≡ true → ended_with code (is_of p) q ≡ waking p code None ∷ []
   unfolding ended_with asleep
   ended_one [] d e = let z : ◌≡◌ {A = ℕ} 0 1 = cc in absurd (omega arith)
   ended_one (s ∷ q) (apart o d) e = go (eqb s.process p) refl e (ended_one q d)
     where
-      go : (b : Bool) → eqb s.process p ≡ b → (b || asleep p q) ≡ true → (asleep p q ≡ true → ended_with code (is_of p) q ≡ waking p code Nowhere ∷ []) → ended_with code (is_of p) (s ∷ q) ≡ waking p code Nowhere ∷ []
+      go : (b : Bool) → eqb s.process p ≡ b → (b || asleep p q) ≡ true → (asleep p q ≡ true → ended_with code (is_of p) q ≡ waking p code None ∷ []) → ended_with code (is_of p) (s ∷ q) ≡ waking p code None ∷ []
       go true t e more =
           let n : s.process ≡ p = eqb-true s.process p t in
-          rw (ended_with, t, n) (ap (λ (r : List Waking). waking p code Nowhere ∷ r) (ended_awake q (rw n at o)))
+          rw (ended_with, t, n) (ap (λ (r : List Waking). waking p code None ∷ r) (ended_awake q (rw n at o)))
       go false t e more = rw (ended_with, t) (more e)
 
 module _ (x : Host) (k : Held x) (p : ℕ) (z : check_process p ≡ 0) where
@@ -58,7 +58,7 @@ module _ (x : Host) (k : Held x) (p : ℕ) (z : check_process p ≡ 0) where
   signal_awake e er el et = signalled [] (ended_awake p (pos 4) (queue_in x.row) (awake p (queue_in x.row) e)) er el et
 
   pub signal_asleep : {r : Row} {l m : List Place} {told : Told} → asleep p (queue_in x.row) ≡ true → r ≡ with_queue x.row (keep (not_of p) (queue_in x.row))
-      → l ≡ list_of [] → m ≡ set l 0 (place_of (waking p (pos 4) Nowhere)) → told ≡ telling (pos 0) 0 0 1 → record { host = record { row = r; adjustments = x.adjustments }; wakings = m; told = told } ≡ after_of (do_signal (state_in x) p)
+      → l ≡ list_of [] → m ≡ set l 0 (place_of (waking p (pos 4) None)) → told ≡ telling (pos 0) 0 0 1 → record { host = record { row = r; adjustments = x.adjustments }; wakings = m; told = told } ≡ after_of (do_signal (state_in x) p)
   signal_asleep e er el em et =
-      signalled (waking p (pos 4) Nowhere ∷ []) (ended_one p (pos 4) (queue_in x.row) (held_invariant x k).distinct e) er
-      (em ∙ ap (λ (a : List Place). set a 0 (place_of (waking p (pos 4) Nowhere))) el ∙ noted [] (waking p (pos 4) Nowhere) (omega arith)) et
+      signalled (waking p (pos 4) None ∷ []) (ended_one p (pos 4) (queue_in x.row) (held_invariant x k).distinct e) er
+      (em ∙ ap (λ (a : List Place). set a 0 (place_of (waking p (pos 4) None))) el ∙ noted [] (waking p (pos 4) None) (omega arith)) et
