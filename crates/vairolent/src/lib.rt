@@ -95,32 +95,29 @@ pub extern "C" fn vairolent_fresh() -> Fresh
 }
 
 // The operation that decided, as C has it.
-fn decided_of(position: Position) -> Decided
-    ensures { result ≡ decided_of position }
-{
-    match position {
-        None => Decided {
-            there: false,
-            at: 0,
-        },
-        Some(number) => Decided {
-            there: true,
-            at: number,
-        },
+impl From<Position> for Decided {
+    ghost from_gives = { λ p d. d ≡ decided_of p };
+
+    fn from(position: Position) -> Decided {
+        Decided {
+            there: position.is_some(),
+            at: position.unwrap_or(0),
+        }
     }
 }
 
 // What an event tells, as C has it.
-fn report(told: Told) -> Reported
-    ensures { result ≡ report_of told }
-{
-    let position = told.position;
-    Reported {
-        code: told.code,
-        value: told.value,
-        looks: told.looks,
-        woken: told.woken,
-        position: decided_of(position),
+impl From<Told> for Reported {
+    ghost from_gives = { λ t r. r ≡ report_of t };
+
+    fn from(told: Told) -> Reported {
+        Reported {
+            code: told.code,
+            value: told.value,
+            looks: told.looks,
+            woken: told.woken,
+            position: told.position.into(),
+        }
     }
 }
 
@@ -128,11 +125,7 @@ fn report(told: Told) -> Reported
 fn wait_of(waits: bool, wait: u32) -> Wait
     ensures { result ≡ wait_by waits wait }
 {
-    if waits {
-        Some(wait)
-    } else {
-        None
-    }
+    waits.then_some(wait)
 }
 
 #[unsafe(no_mangle)]
@@ -147,7 +140,7 @@ pub extern "C" fn vairolent_create_in(
     requires { Held (host_in row.old adjustments.old) }
     ensures { handed_in row.new adjustments.new wakings.new result ≡ handed_of (after_of (do_create (state_in (host_in row.old adjustments.old)) process count mode)) }
 {
-    report(service::create(row, adjustments, wakings, process, count, mode))
+    service::create(row, adjustments, wakings, process, count, mode).into()
 }
 
 #[unsafe(no_mangle)]
@@ -164,7 +157,7 @@ pub extern "C" fn vairolent_operate_in(
     requires { Held (host_in row.old adjustments.old) }
     ensures { handed_in row.new adjustments.new wakings.new result ≡ handed_of (after_of (do_operate (waker Quick) (state_in (host_in row.old adjustments.old)) process identifier (wait_by waits wait) operations.now)) }
 {
-    report(service::operate(
+    service::operate(
         row,
         adjustments,
         wakings,
@@ -173,7 +166,8 @@ pub extern "C" fn vairolent_operate_in(
         identifier,
         wait_of(waits, wait),
         operations,
-    ))
+    )
+    .into()
 }
 
 #[unsafe(no_mangle)]
@@ -189,7 +183,7 @@ pub extern "C" fn vairolent_set_value_in(
     requires { Held (host_in row.old adjustments.old) }
     ensures { handed_in row.new adjustments.new wakings.new result ≡ handed_of (after_of (do_set_value (waker Quick) (state_in (host_in row.old adjustments.old)) process identifier number value)) }
 {
-    report(service::set_value(
+    service::set_value(
         row,
         adjustments,
         wakings,
@@ -198,7 +192,8 @@ pub extern "C" fn vairolent_set_value_in(
         identifier,
         number,
         value,
-    ))
+    )
+    .into()
 }
 
 #[unsafe(no_mangle)]
@@ -212,7 +207,7 @@ pub extern "C" fn vairolent_remove_in(
     requires { Held (host_in row.old adjustments.old) }
     ensures { handed_in row.new adjustments.new wakings.new result ≡ handed_of (after_of (do_remove (state_in (host_in row.old adjustments.old)) process identifier)) }
 {
-    report(service::remove(row, adjustments, wakings, process, identifier))
+    service::remove(row, adjustments, wakings, process, identifier).into()
 }
 
 #[unsafe(no_mangle)]
@@ -225,7 +220,7 @@ pub extern "C" fn vairolent_signal_in(
     requires { Held (host_in row.old adjustments.old) }
     ensures { handed_in row.new adjustments.new wakings.new result ≡ handed_of (after_of (do_signal (state_in (host_in row.old adjustments.old)) process)) }
 {
-    report(service::signal(row, adjustments, wakings, process))
+    service::signal(row, adjustments, wakings, process).into()
 }
 
 #[unsafe(no_mangle)]
@@ -238,7 +233,7 @@ pub extern "C" fn vairolent_exit_in(
     requires { Held (host_in row.old adjustments.old) }
     ensures { handed_in row.new adjustments.new wakings.new result ≡ handed_of (after_of (do_exit (waker Quick) (state_in (host_in row.old adjustments.old)) process)) }
 {
-    report(service::exit(row, adjustments, wakings, Engine::Quick, process))
+    service::exit(row, adjustments, wakings, Engine::Quick, process).into()
 }
 
 // The values stand in the bytes that are lent, four each, little-endian and signed, as a run file has them.
@@ -254,7 +249,7 @@ pub extern "C" fn vairolent_set_all_in(
     requires { Held (host_in row.old adjustments.old) }
     ensures { handed_in row.new adjustments.new wakings.new result ≡ handed_of (after_of (do_set_all (waker Quick) (state_in (host_in row.old adjustments.old)) process identifier values.now)) }
 {
-    report(service::set_all(
+    service::set_all(
         row,
         adjustments,
         wakings,
@@ -262,7 +257,8 @@ pub extern "C" fn vairolent_set_all_in(
         process,
         identifier,
         values,
-    ))
+    )
+    .into()
 }
 
 #[unsafe(no_mangle)]
@@ -275,7 +271,7 @@ pub extern "C" fn vairolent_clock_in(
     requires { Held (host_in row.old adjustments.old) }
     ensures { handed_in row.new adjustments.new wakings.new result ≡ handed_of (after_of (do_clock (state_in (host_in row.old adjustments.old)) time)) }
 {
-    report(service::clock(row, adjustments, wakings, time))
+    service::clock(row, adjustments, wakings, time).into()
 }
 
 #[unsafe(no_mangle)]
@@ -290,7 +286,7 @@ pub extern "C" fn vairolent_act_as_in(
     requires { Held (host_in row.old adjustments.old) }
     ensures { handed_in row.new adjustments.new wakings.new result ≡ handed_of (after_of (do_act_as (state_in (host_in row.old adjustments.old)) process user group)) }
 {
-    report(service::act_as(row, adjustments, wakings, process, user, group))
+    service::act_as(row, adjustments, wakings, process, user, group).into()
 }
 
 #[unsafe(no_mangle)]

@@ -5,4 +5,4 @@ use Rattle.vairolent.proofs.vairolent_operate_in.Goals as goal
 
 -- the signed number goes to the service through its 32 bits, and comes back as it was
 pub returns : goal.returns
-returns c = rw (sym (to_z-of_z c.ranges.identifier), ← c.wait_of.ensures) (handed c.report.ensures c.operate.ensures)
+returns c = rw (sym (to_z-of_z c.ranges.identifier), ← c.wait_of.ensures) (handed c.into.ensures c.operate.ensures)

@@ -5,4 +5,4 @@ use Rattle.vairolent.proofs.vairolent_set_all_in.Goals as goal
 
 -- the signed number goes to the service through its 32 bits, and comes back as it was
 pub returns : goal.returns
-returns c = rw (sym (to_z-of_z c.ranges.identifier)) (handed c.report.ensures c.set_all.ensures)
+returns c = rw (sym (to_z-of_z c.ranges.identifier)) (handed c.into.ensures c.set_all.ensures)

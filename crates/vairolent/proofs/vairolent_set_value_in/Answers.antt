@@ -5,4 +5,4 @@ use Rattle.vairolent.proofs.vairolent_set_value_in.Goals as goal
 
 -- the signed numbers go to the service through their 32 bits, and come back as they were
 pub returns : goal.returns
-returns c = rw (sym (to_z-of_z c.ranges.identifier), sym (to_z-of_z c.ranges.value)) (handed c.report.ensures c.set_value.ensures)
+returns c = rw (sym (to_z-of_z c.ranges.identifier), sym (to_z-of_z c.ranges.value)) (handed c.into.ensures c.set_value.ensures)
