@@ -1,8 +1,12 @@
 -- Numbers in a row of bytes: reading one, writing one, and what a write leaves alone.
-use Rattle.std.proofs.Common.{◌≡◌, ℕ, zero, suc, ◌+◌, ◌*◌, ◌/◌, ◌%◌, ◌^◌, ◌<◌, ◌≤◌, List, [], ◌∷◌, ◌++◌, length, get_or, set, sym, refl, ap, ◌∙◌, subst, ap₂, le_of_suc-le-suc, not-suc-le-zero, add-zero, mod-lt, mul_assoc, pow-suc, mul-zero, mul-suc, add-one, arith, length-set, get_or-set_other, get_or-set_same}
+use Rattle.std.proofs.Common.{◌≡◌, ℕ, zero, suc, ◌+◌, ◌*◌, ◌/◌, ◌%◌, ◌^◌, ◌<◌, ◌≤◌, List, [], ◌∷◌, ◌++◌, length, get_or, set, sym, refl, ap, ◌∙◌, subst, ap₂, le_of_suc-le-suc, not-suc-le-zero, add-zero, mod-lt, mul_assoc, mul_comm, pow-suc, mul-zero, mul-suc, add-one, arith, length-set, get_or-set_other, get_or-set_same}
 use native.Mathlib.Nat.{pow-succ', div-add-mod, one-le-pow}
 use lib.ListN.{get_or-eq_default}
 use lib.Seq.{sets, length-sets}
+use Rattle.std.specs.Int.{byte_at, byte_worth, bytes_low_first, sum_through}
+use Rattle.std.specs.List.{between}
+use Rattle.std.proofs.lemmas.List.Edits.{get_or-between}
+use Rattle.std.proofs.Math.Nat.{div-div-eq-div-mul}
 use Rattle.host.specs.Parts.{number_at, bytes_of, numbers_from}
 use Rattle.host.proofs.RowLaws.{sets_append}
 
@@ -151,3 +155,45 @@ module _ (w : ℕ) where
 
     pub over : b ≤ at → numbers_from w at n h' ≡ numbers_from w at n h
     over l = numbers_same n at h h' (λ j p q. v.above j (omega arith))
+
+-- ---- as the library reads and writes them
+
+-- a number that is read from bytes that stand elsewhere too
+module _ (bs h : List ℕ) (at n : ℕ) (same : (d : ℕ) → d < n → get_or bs d 0 ≡ get_or h (at + d) 0) where
+  pub number_moved : (w j : ℕ) → j + w ≤ n → number_at w bs j ≡ number_at w h (at + j)
+  unfolding number_at
+  number_moved zero j l = refl
+  number_moved (suc w) j l =
+      let e : at + j + 1 ≡ at + (j + 1) = omega arith in
+      rw e (omega (arith, same j (omega arith), number_moved w (j + 1) (omega arith)))
+
+-- `from_le_bytes`
+number_summed : (k : ℕ) (bs : List ℕ) → sum_through (λ i. byte_worth i (get_or bs i 0)) k ≡ number_at (suc k) bs 0
+number_summed zero bs = sym (one_byte bs 0)
+number_summed (suc k) bs =
+    let e : suc (suc k) ≡ suc k + 1 = omega arith in
+    let z : 0 + suc k ≡ suc k = omega arith in
+    rw (e, number_joined (suc k) 1 bs 0, one_byte bs (0 + suc k), z) (omega (arith, number_summed k bs, mul_comm (get_or bs (suc k) 0) (256 ^ suc k)))
+
+pub number_read : (k at : ℕ) (h : List ℕ) → sum_through (λ i. byte_worth i (get_or (between at (at + suc k) h) i 0)) k ≡ number_at (suc k) h at
+number_read k at h =
+    let z : at + 0 ≡ at = omega arith in
+    number_summed k (between at (at + suc k) h)
+    ∙ number_moved (between at (at + suc k) h) h at (suc k) (λ d l. get_or-between h at (at + suc k) d 0 (omega arith)) (suc k) 0 (omega arith)
+    ∙ ap (λ (j : ℕ). number_at (suc k) h j) z
+
+-- `to_le_bytes`
+bytes_listed : (i k x : ℕ) → bytes_low_first i k x ≡ bytes_of k (x / 256 ^ i)
+unfolding bytes_of
+bytes_listed i zero x = refl
+bytes_listed i (suc k) x = ap₂ (λ (b : ℕ) (r : List ℕ). b ∷ r) (one i) (bytes_listed (suc i) k x ∙ ap (bytes_of k) more)
+  where
+    one : (i : ℕ) → byte_at i x ≡ x / 256 ^ i % 256
+    one zero = omega arith
+    one (suc i) = refl
+
+    more : x / 256 ^ suc i ≡ x / 256 ^ i / 256
+    more = ap (λ (n : ℕ). x / n) (pow-suc 256 i) ∙ sym (div-div-eq-div-mul x (256 ^ i) 256)
+
+pub bytes_written : (k x : ℕ) → bytes_low_first 0 k x ≡ bytes_of k x
+bytes_written k x = bytes_listed 0 k x ∙ ap (bytes_of k) (omega arith)

@@ -3,7 +3,7 @@ use Rattle.std.proofs.Common.{◌≡◌, ℕ, zero, suc, ◌+◌, ◌*◌, ◌^�
 use borrow.Author.Tests.{eqb-false}
 use lib.ListN.{get_or-eq_default, get_or-map}
 use lib.Seq.{sets, set_out}
-use Rattle.host.specs.Parts.{Part, arrays, of_sets, of_callers, of_table, of_clock, of_queue, parts, part, listed, number, Shape, shapes, place_from, place, behind, host_bytes, number_at, bytes_of, Row, row_in, with, put}
+use Rattle.host.specs.Parts.{Part, arrays, of_sets, of_callers, of_table, of_clock, of_queue, parts, part, listed, number, Shape, shapes, Place, place_from, place, behind, host_bytes, number_at, bytes_of, Row, row_in, with, put}
 use Rattle.host.proofs.Numbers.{StoredAt, stored, number_stored, length_numbers, numbers_at, numbers_beyond, numbers_set, under, over}
 
 -- a function is known by its values
@@ -159,6 +159,23 @@ write_beyond p i x h l = by_values (λ q. each q (eqb (number p) (number q)) ref
     each q true e = ap (row_in h) (sym (told_apart p q (eqb-true (number p) (number q) e))) ∙ sym (set_out (row_in h p) i x (omega (arith, length_part p h)))
     each q false e = refl
 
+-- ---- the part that begins at a place
+
+module _ (p : Part) (q : Place) (e : place p ≡ q) (i : ℕ) (h : List ℕ) where
+  pub read_place : i < q.shape.count → number_at q.shape.width h (q.at + q.shape.width * i) ≡ get_or (row_in h p) i 0
+  read_place = subst (λ (k : Place). i < k.shape.count → number_at k.shape.width h (k.at + k.shape.width * i) ≡ get_or (row_in h p) i 0) e (λ l. sym (read_part p i h l))
+
+  pub none_at : q.shape.count ≤ i → 0 ≡ get_or (row_in h p) i 0
+  none_at = subst (λ (k : Place). k.shape.count ≤ i → 0 ≡ get_or (row_in h p) i 0) e (λ l. sym (read_beyond p i h l))
+
+  pub write_place : (x : ℕ) → length h ≡ host_bytes → i < q.shape.count → x < 256 ^ q.shape.width
+      → row_in (sets h (q.at + q.shape.width * i) (bytes_of q.shape.width x)) ≡ put (row_in h) p i x
+  write_place x long = subst (λ (k : Place). i < k.shape.count → x < 256 ^ k.shape.width → row_in (sets h (k.at + k.shape.width * i) (bytes_of k.shape.width x)) ≡ put (row_in h) p i x) e
+      (λ l m. write_part p i x h long l m)
+
+  pub kept_at : (x : ℕ) → q.shape.count ≤ i → row_in h ≡ put (row_in h) p i x
+  kept_at x = subst (λ (k : Place). k.shape.count ≤ i → row_in h ≡ put (row_in h) p i x) e (λ l. write_beyond p i x h l)
+
 -- ---- a row with parts replaced
 
 -- replaced twice
@@ -180,3 +197,7 @@ with_same r p = by_values (λ q. each q (eqb (number p) (number q)) refl)
 -- the part that was replaced
 pub with_here : (r : Row) (p : Part) (l : List ℕ) → with r p l p ≡ l
 with_here r p l = rw (eq-eqb (number p) (number p) refl)
+
+-- one number after another is put
+pub put_after : {r s t : Row} (p : Part) (i x : ℕ) → t ≡ put s p i x → s ≡ r → t ≡ put r p i x
+put_after p i x e d = e ∙ ap (λ (y : Row). put y p i x) d

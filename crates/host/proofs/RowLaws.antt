@@ -2,6 +2,8 @@
 use Rattle.std.proofs.Common.{◌≡◌, ℕ, zero, suc, ◌+◌, ◌<◌, ◌≤◌, List, [], ◌∷◌, ◌++◌, length, get_or, take, drop, set, replicate, sym, refl, ap, ◌∙◌, ap₂, add-zero, add-one, arith, length-set, length-take-le, take_all, take-suc, take-suc-set}
 use lib.ListN.{get_or-eq_default}
 use lib.Seq.{sets, sets-eq, paste, slice, slice-cons, slice_empty, set_out}
+use borrow.Rule.Slice.PartMut.{put_mid}
+use Rattle.std.proofs.lemmas.Slice.{put_mid-paste}
 use Rattle.host.specs.Rows.{from}
 
 module _ {A : Type 0} where
@@ -31,6 +33,16 @@ module _ {A : Type 0} where
   unfolding from
   from_beyond d zero at l h = refl
   from_beyond d (suc n) at l h = ap₂ (λ (x : A) (r : List A). x ∷ r) (get_or-eq_default l d h) (from_beyond d n (at + 1) l (omega arith))
+
+  -- each of them is read
+  pub from_each : (d : A) (n at : ℕ) (l out : List A) → length out ≡ n → ((i : ℕ) → i < n → get_or out i d ≡ get_or l (at + i) d) → out ≡ from d n at l
+  unfolding from
+  from_each d zero at l [] e f = refl
+  from_each d zero at l (x ∷ out) e f = absurd (omega arith)
+  from_each d (suc n) at l [] e f = absurd (omega arith)
+  from_each d (suc n) at l (x ∷ out) e f =
+      let more : (i : ℕ) → at + suc i ≡ at + 1 + i = λ i. omega arith in
+      ap₂ (λ (y : A) (r : List A). y ∷ r) (rw add-zero at (f 0 (omega arith))) (from_each d n (at + 1) l out (omega arith) (λ i h. rw (more i) at (f (suc i) (omega arith))))
 
   -- the loop: the first j of n are read
   pub record Reading (d : A) (n at : ℕ) (l out : List A) (j : ℕ) : Type 0 where
@@ -74,6 +86,10 @@ module _ {A : Type 0} where
   pub sets_paste : (vs l : List A) (at n : ℕ) → length vs ≡ n → at + n ≤ length l → sets l at vs ≡ paste l at vs n
   sets_paste vs l at n e h =
       sets-eq vs l at (omega arith) ∙ ap₂ (λ (r : List A) (k : ℕ). take at l ++ r ++ drop (at + k) l) (sym (take_all n vs (omega arith))) e
+
+  -- written as `s[at..e]`
+  pub sets_part : (vs l ys : List A) (at k : ℕ) → ys ≡ vs → length vs ≡ k → at + k ≤ length l → put_mid at k l ys ≡ sets l at vs
+  sets_part vs l ys at k e n h = put_mid-paste at k l ys vs k e refl (sym n) ∙ sym (sets_paste vs l at k n h)
 
   -- none of them is
   pub sets_beyond : (vs l : List A) (at : ℕ) → length l ≤ at → sets l at vs ≡ l

@@ -1,34 +1,17 @@
 -- The loops over the values and the last processes of a slot; a row of zeros; and the last processes after an array.
-use Rattle.std.proofs.Common.{◌≡◌, ℕ, zero, suc, ◌+◌, ◌-◌, ◌*◌, ◌%◌, ◌^◌, ◌<◌, ◌≤◌, Bool, true, false, cond, not, eqb, ◌≢◌, List, ◌∷◌, length, get_or, set, replicate, sym, refl, ap, ◌∙◌, subst, ap₂, le_of_suc-le-suc, not-suc-le-zero, add-zero, mod-eq_of_lt, one-mul, mul-add, arith, length-set, set-set, eq-eqb, ne_eqb, eqb-true}
+use Rattle.std.proofs.Common.{◌≡◌, ℕ, zero, suc, ◌+◌, ◌-◌, ◌*◌, ◌%◌, ◌^◌, ◌<◌, ◌≤◌, Bool, true, false, cond, not, eqb, ◌≢◌, List, ◌∷◌, length, get_or, set, replicate, sym, refl, ap, ◌∙◌, ap₂, le_of_suc-le-suc, not-suc-le-zero, add-zero, mod-eq_of_lt, one-mul, arith, set-set, eq-eqb, ne_eqb, eqb-true}
 use native.Mathlib.Nat.{sub-zero}
 use borrow.Author.Tests.{eqb-false}
 use lib.Bits.{bit_and, bit_or}
 use lib.Pow.{pow-lt}
-use lib.Seq.{sets, set_comm, set-get_or, set_out}
+use lib.Seq.{set_comm, set_out}
 use Rattle.model.specs.State.{fresh_state}
 use Rattle.model.specs.Operation.{has_bit}
 use Rattle.model.proofs.Bits.{bit_zero, bit_or_same, bit_or_other, has_bit_bit}
-use Rattle.host.specs.Parts.{Part, place, host_bytes, number_at, bytes_of, numbers_from, Row, row_in, with, put}
+use Rattle.host.specs.Parts.{Part, place, host_bytes, number_at, numbers_from, Row, row_in, with, put}
 use Rattle.host.specs.Rows.{masked_from, masked}
 use Rattle.host.specs.Holding.{of_process, by_process, blocks_from, order_of, host_of}
-use Rattle.host.proofs.PartLaws.{width, count, spot, by_values, by_parts, length_part, read_part, write_part, with_again, with_same, with_here}
-use Rattle.host.proofs.SleeperLaws.{byte_write}
-
--- ---- a number of a part, from a place on
-
-module _ (p : Part) (at j : ℕ) (h : List ℕ) where
-  further : spot p (at + j) ≡ spot p at + width p * j
-  further = go (width p)
-    where
-      go : (w : ℕ) → (place p).at + w * (at + j) ≡ (place p).at + w * at + w * j
-      go w = omega (arith, mul-add w at j)
-
-  pub read_further : at + j < count p → number_at (width p) h (spot p at + width p * j) ≡ get_or (row_in h p) (at + j) 0
-  read_further l = ap (λ (k : ℕ). number_at (width p) h k) (sym further) ∙ sym (read_part p (at + j) h l)
-
-  pub write_further : (x : ℕ) → length h ≡ host_bytes → at + j < count p → x < 256 ^ width p
-      → row_in (sets h (spot p at + width p * j) (bytes_of (width p) x)) ≡ put (row_in h) p (at + j) x
-  write_further x long l m = ap (λ (k : ℕ). row_in (sets h k (bytes_of (width p) x))) (sym further) ∙ write_part p (at + j) x h long l m
+use Rattle.host.proofs.PartLaws.{width, count, by_values, by_parts, length_part, with_again, with_same, with_here}
 
 -- ---- the numbers in a mask get x
 
@@ -60,49 +43,47 @@ module _ (p : Part) (n at mask x : ℕ) (h₀ : List ℕ) where
         same = ap₂ (λ (m k : ℕ). masked mask x m k (row_in h₀ p)) (sub-zero n) (add-zero at);
       }
 
-  module _ (thin : width p ≡ 1) (fits : at + n ≤ count p) (byte : x < 256) (h : List ℕ) (j : ℕ) where
-    abbrev there : ℕ
-    there = (place p).at + at + j
+  module _ (h : List ℕ) (j : ℕ) (m : Masking p n at mask x h₀ h j) (l : j < n) where
+    beside : at + (j + 1) ≡ at + j + 1
+    beside = omega arith
 
-    pub mask_more : (v : ℕ) (b : Bool) → Masking p n at mask x h₀ h j → j < n → has_bit mask (2 ^ j) ≡ b → v ≡ cond b x (get_or h there 0)
-        → Masking p n at mask x h₀ (set h there v) (j + 1)
+    less : suc (n - (j + 1)) ≡ n - j
+    less = omega arith
+
+    pub mask_more : (h' : List ℕ) → has_bit mask (2 ^ j) ≡ true → length h' ≡ length h → row_in h' ≡ put (row_in h) p (at + j) x → Masking p n at mask x h₀ h' (j + 1)
     unfolding masked_from
-    mask_more v b m l t e =
+    mask_more h' t long e =
         record {
           within = omega arith;
-          long = length-set h there v ∙ m.long;
-          only = one ∙ ap (λ (r : Row). with r p (new b)) m.only ∙ with_again (row_in h₀) p (row_in h p) (new b) ∙ ap (λ (r : List ℕ). with (row_in h₀) p r) (sym here);
+          long = long ∙ m.long;
+          only = e ∙ ap (λ (r : Row). with r p new) m.only ∙ with_again (row_in h₀) p (row_in h p) new ∙ ap (λ (r : List ℕ). with (row_in h₀) p r) (sym here);
           same =
               ap₂ (λ (k : ℕ) (r : List ℕ). masked_from (j + 1) mask x (n - (j + 1)) k r) beside here
-              ∙ ap (λ (c : Bool). masked_from (j + 1) mask x (n - (j + 1)) (at + j + 1) (new c)) (sym t)
+              ∙ ap (λ (c : Bool). masked_from (j + 1) mask x (n - (j + 1)) (at + j + 1) (cond c new (row_in h p))) (sym t)
               ∙ ap (λ (k : ℕ). masked_from j mask x k (at + j) (row_in h p)) less
               ∙ m.same;
         }
       where
-        new : Bool → List ℕ
-        new c = cond c (set (row_in h p) (at + j) x) (row_in h p)
+        new : List ℕ
+        new = set (row_in h p) (at + j) x
 
-        beside : at + (j + 1) ≡ at + j + 1
-        beside = omega arith
-
-        less : suc (n - (j + 1)) ≡ n - j
-        less = omega arith
-
-        go : (c : Bool) → row_in (set h there (cond c x (get_or h there 0))) ≡ with (row_in h) p (new c)
-        go true =
-            let i : there ≡ (place p).at + (at + j) = omega arith in
-            ap (λ (k : ℕ). row_in (set h k x)) i ∙ byte_write p (at + j) h thin x m.long (omega arith) byte
-        go false = ap row_in (set-get_or h there 0) ∙ with_same (row_in h) p
-
-        one : row_in (set h there v) ≡ with (row_in h) p (new b)
-        one = ap (λ (y : ℕ). row_in (set h there y)) e ∙ go b
-
-        here : row_in (set h there v) p ≡ new b
-        here = ap (λ (r : Row). r p) one ∙ with_here (row_in h) p (new b)
+        here : row_in h' p ≡ new
+        here = ap (λ (r : Row). r p) e ∙ with_here (row_in h) p new
 
     -- .. nothing stored where it is not in the mask
-    pub mask_kept : Masking p n at mask x h₀ h j → j < n → has_bit mask (2 ^ j) ≡ false → Masking p n at mask x h₀ h (j + 1)
-    mask_kept m l t = subst (λ (k : List ℕ). Masking p n at mask x h₀ k (j + 1)) (set-get_or h there 0) (mask_more (get_or h there 0) false m l t refl)
+    pub mask_kept : has_bit mask (2 ^ j) ≡ false → Masking p n at mask x h₀ h (j + 1)
+    unfolding masked_from
+    mask_kept t =
+        record {
+          within = omega arith;
+          long = m.long;
+          only = m.only;
+          same =
+              ap (λ (k : ℕ). masked_from (j + 1) mask x (n - (j + 1)) k (row_in h p)) beside
+              ∙ ap (λ (c : Bool). masked_from (j + 1) mask x (n - (j + 1)) (at + j + 1) (cond c (set (row_in h p) (at + j) x) (row_in h p))) (sym t)
+              ∙ ap (λ (k : ℕ). masked_from j mask x k (at + j) (row_in h p)) less
+              ∙ m.same;
+        }
 
   pub mask_all : (h : List ℕ) (j : ℕ) → Masking p n at mask x h₀ h j → n ≤ j → row_in h ≡ with (row_in h₀) p (masked mask x n at (row_in h₀ p))
   unfolding masked_from

@@ -1,17 +1,19 @@
 -- Parts whose numbers are bytes: one of them, one after the other, several in a loop, and a stretch of them in place; and
 -- where adjustments begin.
-use Rattle.std.proofs.Common.{◌≡◌, ℕ, zero, suc, ◌+◌, ◌-◌, ◌*◌, ◌%◌, ◌^◌, ◌<◌, ◌≤◌, min, Bool, true, false, cond, ◌||◌, eqb, ltb, leb, List, [], ◌∷◌, length, get_or, take, drop, set, replicate, sym, refl, ap, ◌∙◌, subst, ap₂, ⊎_elim, arith, length-set, drop_of_length-le, length-take, take_all, drop-cons, take-take, drop-drop, ltb-false, le-ltb, ne_eqb, leb-false}
-use native.Mathlib.Nat.{min-eq_left, min-eq_right, min-le_left}
-use borrow.Author.Tests.{eqb-false, lt-leb}
-use lib.Seq.{sets, length-sets, take-nil}
-use Rattle.model.specs.Limits.{slots, semaphores, processes, array_bytes, all_adjustments}
-use Rattle.model.specs.State.{undo_row}
+use Rattle.std.proofs.Common.{◌≡◌, ℕ, zero, suc, ◌+◌, ◌-◌, ◌*◌, ◌%◌, ◌^◌, ◌<◌, ◌≤◌, min, Bool, true, false, cond, ◌||◌, eqb, leb, List, [], ◌∷◌, length, get_or, take, drop, set, replicate, sym, refl, ap, ◌∙◌, subst, ap₂, ⊎_elim, arith, length-set, drop_of_length-le, take_all, drop-cons, take-take, drop-drop, le-ltb, ne_eqb}
+use native.Mathlib.Nat.{min-eq_left, min-eq_right}
+use borrow.Author.Tests.{lt-leb}
+use lib.Seq.{sets}
+use Rattle.std.proofs.lemmas.List.{drop-take}
+use Rattle.std.proofs.lemmas.Bool.{lt-ltb, le-leb}
+use Rattle.model.specs.Limits.{slots, processes, array_bytes, all_semaphores, all_adjustments}
+use Rattle.model.specs.State.{row, undo_row}
 use Rattle.model.specs.Checks.{no_process}
-use Rattle.host.specs.Parts.{Part, sizes, arrays, place, host_bytes, number_at, bytes_of, numbers_from, Row, row_in, with, put}
+use Rattle.host.specs.Parts.{Part, arrays, place, host_bytes, number_at, bytes_of, numbers_from, Row, row_in, with, put}
 use Rattle.host.specs.Rows.{undo_at}
-use Rattle.host.specs.Holding.{entry, room_in, array_in}
+use Rattle.host.specs.Holding.{entry, room_in}
 use Rattle.host.proofs.Numbers.{one_byte}
-use Rattle.host.proofs.PartLaws.{width, count, spot, inside, less_or_not, length_part, read_part, read_beyond, write_part, write_beyond, with_again, with_same, with_here}
+use Rattle.host.proofs.PartLaws.{width, count, spot, inside, less_or_not, length_part, read_part, write_part, with_again, with_same, with_here}
 use Rattle.host.proofs.RowLaws.{sets_more, sets_beyond}
 
 -- ---- one byte
@@ -30,30 +32,20 @@ module _ (p : Part) (i : ℕ) (h : List ℕ) (thin : width p ≡ 1) where
       let b : bytes_of (width p) x ≡ x ∷ [] = ap (λ (w : ℕ). bytes_of w x) thin ∙ ap (λ (y : ℕ). y ∷ []) e in
       ap₂ (λ (k : ℕ) (vs : List ℕ). row_in (sets h k vs)) (sym there) (sym b) ∙ write_part p i x h long l (subst (λ (w : ℕ). x < 256 ^ w) (sym thin) (omega arith))
 
--- ---- bytes of several parts, one after the other
+-- ---- several bytes, one behind the other
 
--- what a row of bytes says
-pub record Says (h : List ℕ) (r : Row) : Type 0 where
-  pub long : length h ≡ host_bytes
-  pub same : row_in h ≡ r
-
-pub says : (h : List ℕ) → length h ≡ host_bytes → Says h (row_in h)
-says h long = record { long = long; same = refl }
-
--- one more is written, of any width
-pub says_number : {h h' : List ℕ} {r : Row} → Says h r → (p : Part) (i x : ℕ) → i < count p → x < 256 ^ width p → h' ≡ sets h (spot p i) (bytes_of (width p) x) → Says h' (put r p i x)
-says_number {h} k p i x l m e =
-    let b = bytes_of (width p) x in
-    record { long = ap length e ∙ length-sets h (spot p i) b ∙ k.long; same = ap row_in e ∙ write_part p i x h k.long l m ∙ ap (λ (y : Row). put y p i x) k.same }
-
--- .. that is a byte
-pub says_byte : {h : List ℕ} {r : Row} → Says h r → (p : Part) (i x : ℕ) → width p ≡ 1 → i < count p → x < 256 → Says (set h ((place p).at + i) x) (put r p i x)
-says_byte {h} k p i x thin l m =
-    record { long = length-set h ((place p).at + i) x ∙ k.long; same = byte_write p i h thin x k.long l m ∙ ap (λ (y : Row). put y p i x) k.same }
-
--- .. but not beyond its part
-pub same_beyond : (h : List ℕ) {r : Row} → row_in h ≡ r → (p : Part) (i x : ℕ) → count p ≤ i → row_in h ≡ put r p i x
-same_beyond h e p i x l = write_beyond p i x h l ∙ ap (λ (y : Row). put y p i x) e
+pub bytes_write : (p : Part) → width p ≡ 1 → (vs : List ℕ) (k : ℕ) (h : List ℕ) → length h ≡ host_bytes → k + length vs ≤ count p → ((i : ℕ) → i < length vs → get_or vs i 0 < 256)
+    → row_in (sets h ((place p).at + k) vs) ≡ with (row_in h) p (sets (row_in h p) k vs)
+bytes_write p thin [] k h long l small = with_same (row_in h) p
+bytes_write p thin (v ∷ vs) k h long l small =
+    let next : List ℕ = set h ((place p).at + k) v in
+    let one : row_in next ≡ put (row_in h) p k v = byte_write p k h thin v long (omega arith) (small 0 (omega arith)) in
+    let behind : suc ((place p).at + k) ≡ (place p).at + suc k = omega arith in
+    ap (λ (m : ℕ). row_in (sets next m vs)) behind
+    ∙ bytes_write p thin vs (suc k) next (length-set h ((place p).at + k) v ∙ long) (omega arith) (λ i m. small (suc i) (omega arith))
+    ∙ ap (λ (r : Row). with r p (sets (r p) (suc k) vs)) one
+    ∙ with_again (row_in h) p (set (row_in h p) k v) (sets (put (row_in h) p k v p) (suc k) vs)
+    ∙ ap (λ (n : List ℕ). with (row_in h) p (sets n (suc k) vs)) (with_here (row_in h) p (set (row_in h p) k v))
 
 -- ---- a loop that writes a part from a place on
 
@@ -81,12 +73,6 @@ module _ (p : Part) where
               ∙ ap (λ (n : List ℕ). with (row_in h₀) p n) (sets_more vs (row_in h₀ p) at j 0 l);
         }
 
-    -- one that is a byte
-    pub write_byte : (x k : ℕ) → width p ≡ 1 → j < length vs → at + length vs ≤ count p → x ≡ get_or vs j 0 → x < 256 → k ≡ (place p).at + at → Writing p h₀ at vs (set h (k + j) x) (j + 1)
-    write_byte x k thin l room e small ek =
-        let i : k + j ≡ (place p).at + (at + j) = omega arith in
-        write_more x l e (length-set h (k + j) x) (ap (λ (n : ℕ). row_in (set h n x)) i ∙ byte_write p (at + j) h thin x w.long (omega arith) small)
-
     pub write_all : length vs ≤ j → row_in h ≡ with (row_in h₀) p (sets (row_in h₀ p) at vs)
     write_all l = w.same ∙ ap (λ (n : List ℕ). with (row_in h₀) p (sets (row_in h₀ p) at n)) (take_all j vs l)
 
@@ -103,11 +89,6 @@ numbers_bytes (suc n) at h l =
     let e : suc at ≡ at + 1 = omega arith in
     rw (drop-cons h at 0 (omega arith), e) (ap₂ (λ (x : ℕ) (r : List ℕ). x ∷ r) (one_byte h at) (numbers_bytes n (at + 1) h (omega arith)))
 
-drop_take : (k m : ℕ) (l : List ℕ) → drop k (take (k + m) l) ≡ take m (drop k l)
-drop_take zero m l = let e : 0 + m ≡ m = omega arith in rw e
-drop_take (suc k) m [] = let e : suc k + m ≡ suc (k + m) = omega arith in rw e (sym (take-nil m))
-drop_take (suc k) m (x ∷ l) = let e : suc k + m ≡ suc (k + m) = omega arith in rw e (drop_take k m l)
-
 module _ (p : Part) (h : List ℕ) (thin : width p ≡ 1) (long : length h ≡ host_bytes) where
   -- the bytes of the part are bytes of the row
   pub bytes_part : row_in h p ≡ take (count p) (drop (place p).at h)
@@ -121,46 +102,27 @@ module _ (p : Part) (h : List ℕ) (thin : width p ≡ 1) (long : length h ≡ h
   bytes_of_part k n l =
       let e : count p ≡ k + (count p - k) = omega arith in
       ap (λ (r : List ℕ). take n (drop k r)) (bytes_part ∙ ap (λ (m : ℕ). take m (drop (place p).at h)) e)
-      ∙ ap (λ (r : List ℕ). take n r) (drop_take k (count p - k) (drop (place p).at h))
+      ∙ ap (λ (r : List ℕ). take n r) (drop-take k (count p - k) (drop (place p).at h))
       ∙ take-take n (count p - k) (drop k (drop (place p).at h)) (omega arith)
       ∙ ap (λ (r : List ℕ). take n r) (drop-drop k (place p).at h)
 
-pub take_min : (m n : ℕ) (l : List ℕ) → take m (take n l) ≡ take (min n m) l
-take_min m n l = ⊎_elim
-    (λ a. let b : m ≤ n = omega arith in take-take m n l b ∙ ap (λ (k : ℕ). take k l) (sym (min-eq_right b)))
-    (λ b. take_all m (take n l) (omega (arith, length-take n l, min-le_left n (length l))) ∙ ap (λ (k : ℕ). take k l) (sym (min-eq_left b)))
-    (less_or_not m n)
+-- as many of them as there are
+pub take_there : (n : ℕ) (l : List ℕ) → take (min (length l) n) l ≡ take n l
+take_there n l = ⊎_elim
+    (λ a. ap (λ (k : ℕ). take k l) (min-eq_right (let b : n ≤ length l = omega arith in b)))
+    (λ b. take_all (min (length l) n) l (omega (arith, min-eq_left b)) ∙ sym (take_all n l b))
+    (less_or_not n (length l))
 
--- the array that a process sleeps on, and none beyond the processes
-module _ (h : List ℕ) (p i : ℕ) (e : i ≡ entry p) where
-  -- `&all[from..to]`
-  abbrev lent : ℕ → List ℕ
-  lent n = take ((place arrays).at + array_bytes * i + n - ((place arrays).at + array_bytes * i)) (drop ((place arrays).at + array_bytes * i) h)
+-- the room for a process's array, lent from the row, and none beyond the processes
+module _ (h : List ℕ) (p : ℕ) where
+  pub room_there : (at : ℕ) → length h ≡ host_bytes → entry p < processes → at ≡ (place arrays).at + array_bytes * entry p
+      → take (at + array_bytes - at) (drop at h) ≡ room_in (row_in h) p
+  room_there at long l e =
+      let d : at + array_bytes - at ≡ array_bytes = omega arith in
+      ap₂ (λ (k m : ℕ). take k (drop m h)) d e ∙ sym (bytes_of_part arrays h refl long (array_bytes * entry p) array_bytes (omega arith))
 
-  lent_is : (n : ℕ) → length h ≡ host_bytes → i < processes → n ≤ array_bytes → lent n ≡ take n (drop (array_bytes * entry p) (row_in h arrays))
-  lent_is n long l m =
-      let d : (place arrays).at + array_bytes * i + n - ((place arrays).at + array_bytes * i) ≡ n = omega arith in
-      ap (λ (k : ℕ). take k (drop ((place arrays).at + array_bytes * i) h)) d
-      ∙ sym (bytes_of_part arrays h refl long (array_bytes * i) n (omega arith))
-      ∙ ap (λ (m : ℕ). take n (drop (array_bytes * m) (row_in h arrays))) e
-
-  pub room_there : length h ≡ host_bytes → i < processes → lent array_bytes ≡ room_in (row_in h) p
-  room_there long l = lent_is array_bytes long l (omega arith)
-
-  pub room_none : processes ≤ i → [] ≡ room_in (row_in h) p
-  room_none l = ap (λ (r : List ℕ). take array_bytes r) (sym (drop_of_length-le (row_in h arrays) {i = array_bytes * entry p} (omega (arith, e, length_part arrays h))))
-
-  pub array_there : (n size : ℕ) → length h ≡ host_bytes → i < processes → size ≡ get_or (row_in h sizes) (entry p) 0 → n ≡ min array_bytes size
-      → lent n ≡ array_in (row_in h) p
-  unfolding array_in
-  array_there n size long l es en =
-      lent_is n long l (omega (arith, en, min-le_left array_bytes size))
-      ∙ ap (λ (k : ℕ). take k (drop (array_bytes * entry p) (row_in h arrays))) (en ∙ ap (λ (k : ℕ). min array_bytes k) es)
-      ∙ sym (take_min (get_or (row_in h sizes) (entry p) 0) array_bytes (drop (array_bytes * entry p) (row_in h arrays)))
-
-  pub array_none : processes ≤ i → [] ≡ array_in (row_in h) p
-  unfolding array_in
-  array_none l = ap (λ (n : ℕ). take n (take array_bytes (drop (array_bytes * entry p) (row_in h arrays)))) (sym (read_beyond sizes (entry p) h (omega (arith, e))))
+  pub room_none : processes ≤ entry p → [] ≡ room_in (row_in h) p
+  room_none l = ap (λ (r : List ℕ). take array_bytes r) (sym (drop_of_length-le (row_in h arrays) {i = array_bytes * entry p} (omega (arith, length_part arrays h))))
 
 pub zeros_at : (n j : ℕ) → ◌≡◌ {A = ℕ} 0 (get_or (replicate n 0) j 0)
 zeros_at zero j = refl
@@ -169,40 +131,29 @@ zeros_at (suc n) (suc j) = zeros_at n j
 
 -- ---- where adjustments begin
 
--- an "or" as the code takes it: the first test's outcome, or the second's
-pub or_taken : {a r : Bool} (b : Bool) → a ≡ true → r ≡ a → r ≡ (a || b)
-or_taken b t e = e ∙ t ∙ sym (ap (λ (x : Bool). x || b) t)
-
-pub or_left : {a r : Bool} (b : Bool) → a ≡ false → r ≡ b → r ≡ (a || b)
-or_left b t e = e ∙ sym (ap (λ (x : Bool). x || b) t)
-
-both_false : (a b : Bool) → (a || b) ≡ false → (a ≡ false) × (b ≡ false)
-both_false true b e = absurd (let z : ◌≡◌ {A = ℕ} 0 1 = cc in omega arith)
-both_false false b e = (refl, e)
-
--- a process and a slot
-pub record Known (p slot : ℕ) : Type 0 where
-  pub some : 1 ≤ p
-  pub few : p ≤ processes
-  pub held : slot < slots
-
 module _ (p slot : ℕ) where
-  pub known : (no_process p || leb slots slot) ≡ false → Known p slot
-  unfolding no_process
-  known e =
-      let (a, b) = both_false (no_process p) (leb slots slot) e in
-      let (x, y) = both_false (eqb p 0) (ltb processes p) a in
-      record { some = omega (arith, eqb-false p 0 x); few = ltb-false processes p y; held = leb-false slots slot b }
-
   pub undo_at_lem : 1 ≤ p → p ≤ processes → slot < slots → undo_at p slot ≡ undo_row p slot
   unfolding undo_at no_process
   undo_at_lem some few l = rw (ne_eqb p 0 (λ (e : p ≡ 0). omega arith), le-ltb processes p few, lt-leb slots slot l)
 
-  -- eight from there on, or none
-  pub undo_room : {start : ℕ} → start ≡ undo_at p slot → start < all_adjustments → start + semaphores ≤ all_adjustments
-  unfolding undo_at
-  undo_room {start} = go (no_process p || leb slots slot) refl
-    where
-      go : (b : Bool) → (no_process p || leb slots slot) ≡ b → start ≡ cond b all_adjustments (undo_row p slot) → start < all_adjustments → start + semaphores ≤ all_adjustments
-      go true e s l = absurd (omega arith)
-      go false e s l = let k = known e in omega (arith, s, k.some, k.few, k.held)
+-- by the entry of the process
+pub undo_begins : (p slot : ℕ) → entry p < processes → slot < slots → entry p * all_semaphores + row slot ≡ undo_at p slot
+undo_begins zero slot l m = absurd (omega arith)
+undo_begins (suc p) slot l m = let e : suc p - 1 ≡ p = omega arith in sym (undo_at_lem (suc p) slot (omega arith) (omega arith) m ∙ ap (λ (i : ℕ). i * all_semaphores + row slot) e)
+
+pub undo_nobody : (p slot : ℕ) → processes ≤ entry p → undo_at p slot ≡ all_adjustments
+unfolding undo_at no_process
+undo_nobody zero slot l = refl
+undo_nobody (suc p) slot l = rw (lt-ltb processes (suc p) (omega arith)) (go (eqb (suc p) 0))
+  where
+    go : (b : Bool) → cond ((b || true) || leb slots slot) all_adjustments (undo_row (suc p) slot) ≡ all_adjustments
+    go true = refl
+    go false = refl
+
+pub undo_nowhere : (p slot : ℕ) → slots ≤ slot → undo_at p slot ≡ all_adjustments
+unfolding undo_at
+undo_nowhere p slot l = rw (le-leb slots slot l) (go (no_process p))
+  where
+    go : (b : Bool) → cond (b || true) all_adjustments (undo_row p slot) ≡ all_adjustments
+    go true = refl
+    go false = refl

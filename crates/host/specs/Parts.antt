@@ -130,6 +130,10 @@ place p = place_from 0 shapes (number p)
 abbrev pub behind : Place → ℕ
 behind p = p.at + p.shape.width * p.shape.count
 
+-- of the part that begins there, with so many numbers of so many bytes
+abbrev pub AtPlace : ℕ → ℕ → ℕ → (Part → Type 0) → Type 0
+AtPlace at width count holds = (p : Part) → place p ≡ record { at = at; shape = shape width count } → holds p
+
 -- the bytes of the whole row
 abbrev pub host_bytes : ℕ
 host_bytes = behind (place arrays)

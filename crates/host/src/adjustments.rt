@@ -1,19 +1,21 @@
 // The undo adjustments: one for each process and semaphore, by process, slot and number.
-ghost use Rattle.std.specs.Prelude.{◌≡◌, pos, slice_set};
+ghost use Rattle.std.specs.Prelude.{◌≡◌, ◌+◌, ◌≤◌, MatchOption, pos, slice_set};
 ghost use Rattle.std.proofs.lemmas.List.Edits.{sets};
-ghost use Rattle.model.specs.Limits.{semaphores};
+ghost use Rattle.model.specs.Limits.{semaphores, all_adjustments};
 ghost use Rattle.host.specs.Rows.{from, undo_at};
 
+use crate::sleepers::entry_of;
 use model::{ALL_ADJUSTMENTS, ALL_SEMAPHORES, PROCESSES, SEMAPHORES, SETS};
 
-// Where the adjustments of a process for a slot begin; beyond all of them for no process or no slot.
-fn start_of(process: u8, slot: usize) -> usize
-    ensures { result ≡ undo_at process slot }
+// Where the adjustments of a process for a slot begin; nowhere for no process or no slot.
+fn start_of(process: u8, slot: usize) -> Option<usize>
+    ensures { MatchOption result (undo_at process slot ≡ all_adjustments) (λ start. (start ≡ undo_at process slot) × (start + semaphores ≤ all_adjustments)) }
 {
-    if process == 0 || PROCESSES < process as usize || SETS <= slot {
-        ALL_ADJUSTMENTS
+    let i = entry_of(process);
+    if i < PROCESSES && slot < SETS {
+        Some(i * ALL_SEMAPHORES + slot * SEMAPHORES)
     } else {
-        ((process - 1) as usize) * ALL_SEMAPHORES + slot * SEMAPHORES
+        None
     }
 }
 
@@ -25,15 +27,9 @@ pub fn adjustments_of(
 ) -> [i16; SEMAPHORES]
     ensures { result ≡ from (pos 0) semaphores (undo_at process slot) adjustments.now }
 {
-    let all: &[i16] = adjustments;
-    let mut out = [0i16; SEMAPHORES];
-    let start = start_of(process, slot);
-    if ALL_ADJUSTMENTS <= start {
-        return out;
-    }
-    for j in 0..SEMAPHORES {
-        let adjustment = all[start + j];
-        out[j] = adjustment;
+    let mut out = [0; SEMAPHORES];
+    if let Some(start) = start_of(process, slot) {
+        out.copy_from_slice(&adjustments[start..start + SEMAPHORES]);
     }
     out
 }
@@ -47,13 +43,8 @@ pub fn put_adjustments(
 )
     ensures { adjustments.new ≡ sets adjustments.old (undo_at process slot) new }
 {
-    let all: &mut [i16] = adjustments;
-    let start = start_of(process, slot);
-    if start < ALL_ADJUSTMENTS {
-        for j in 0..SEMAPHORES {
-            let adjustment = new[j];
-            all[start + j] = adjustment;
-        }
+    if let Some(start) = start_of(process, slot) {
+        adjustments[start..start + SEMAPHORES].copy_from_slice(&new);
     }
 }
 
@@ -61,8 +52,7 @@ pub fn put_adjustments(
 pub fn put_adjustment(adjustments: &mut [i16; ALL_ADJUSTMENTS], i: usize, adjustment: i16)
     ensures { adjustments.new ≡ slice_set adjustments.old i adjustment }
 {
-    let all: &mut [i16] = adjustments;
     if i < ALL_ADJUSTMENTS {
-        all[i] = adjustment;
+        adjustments[i] = adjustment;
     }
 }

@@ -1,62 +1,112 @@
-// Two, four or eight bytes of the row as a number, little-endian: four are two halves, and eight are two words.
-ghost use Rattle.std.specs.Prelude.{◌≡◌, ◌+◌, ◌<◌, length};
+// Numbers as the row has them: little-endian, in as many bytes as their type has.
+ghost use Rattle.std.specs.Prelude.{◌≡◌, ℕ, ◌+◌, ◌^◌, ◌<◌, ◌≤◌, length};
+ghost use Rattle.std.specs.List.{between};
 ghost use Rattle.std.proofs.lemmas.List.Edits.{sets};
-ghost use Rattle.model.specs.Operation.{two};
-ghost use Rattle.host.specs.Parts.{host_bytes, number_at, bytes_of};
+ghost use Rattle.host.specs.Parts.{number_at, bytes_of};
 
-use crate::parts::HOST_BYTES;
+pub trait Number: Copy + Drop + Default {
+    const WIDTH: usize;
 
-fn half(low: u8, high: u8) -> u16
-    ensures { result ≡ two low high }
-{
-    (low as u16) + 256 * (high as u16)
+    ghost WIDTH: { ℕ };
+
+    ghost value: { Self → ℕ };
+
+    fn read(bytes: &[u8], at: usize) -> Self
+        requires { at + WIDTH ≤ length bytes.now }
+        ensures { value result ≡ number_at WIDTH bytes.now at };
+
+    fn write(self, bytes: &mut [u8], at: usize)
+        requires { at + WIDTH ≤ length bytes.old }
+        ensures written { bytes.new ≡ sets bytes.old at (bytes_of WIDTH (value self)) }
+        ensures small { value self < 256 ^ WIDTH };
+
+    ghost zero: { (x : Self) → Self.is_default x → value x ≡ 0 };
 }
 
-pub fn half_at(host: &[u8; HOST_BYTES], at: usize) -> u16
-    requires { at + 1 < host_bytes }
-    ensures { result ≡ number_at 2 host.now at }
-{
-    half(host[at], host[at + 1])
+impl Number for u8 {
+    const WIDTH: usize = 1;
+
+    ghost WIDTH = { 1 };
+
+    ghost value = { λ x. x };
+
+    fn read(bytes: &[u8], at: usize) -> u8 {
+        bytes[at]
+    }
+
+    fn write(self, bytes: &mut [u8], at: usize) {
+        bytes[at] = self;
+    }
+
+    ghost zero = { λ x e. e };
 }
 
-pub fn put_half(all: &mut [u8], at: usize, x: u16)
-    requires { at + 1 < length all.old }
-    ensures { all.new ≡ sets all.old at (bytes_of 2 x) }
-{
-    all[at] = (x % 256) as u8;
-    all[at + 1] = (x / 256) as u8;
+impl Number for u16 {
+    const WIDTH: usize = 2;
+
+    ghost WIDTH = { 2 };
+
+    ghost value = { λ x. x };
+
+    fn read(bytes: &[u8], at: usize) -> u16 {
+        u16::from_le_bytes(bytes_at(bytes, at))
+    }
+
+    fn write(self, bytes: &mut [u8], at: usize) {
+        put_bytes(bytes, at, &self.to_le_bytes());
+    }
+
+    ghost zero = { λ x e. e };
 }
 
-pub fn word_at(host: &[u8; HOST_BYTES], at: usize) -> u32
-    requires { at + 3 < host_bytes }
-    ensures { result ≡ number_at 4 host.now at }
-{
-    let low = half_at(host, at);
-    let high = half_at(host, at + 2);
-    (low as u32) + 65536 * (high as u32)
+impl Number for u32 {
+    const WIDTH: usize = 4;
+
+    ghost WIDTH = { 4 };
+
+    ghost value = { λ x. x };
+
+    fn read(bytes: &[u8], at: usize) -> u32 {
+        u32::from_le_bytes(bytes_at(bytes, at))
+    }
+
+    fn write(self, bytes: &mut [u8], at: usize) {
+        put_bytes(bytes, at, &self.to_le_bytes());
+    }
+
+    ghost zero = { λ x e. e };
 }
 
-pub fn put_word(all: &mut [u8], at: usize, x: u32)
-    requires { at + 3 < length all.old }
-    ensures { all.new ≡ sets all.old at (bytes_of 4 x) }
-{
-    put_half(&mut *all, at, (x % 65536) as u16);
-    put_half(all, at + 2, (x / 65536) as u16);
+impl Number for u64 {
+    const WIDTH: usize = 8;
+
+    ghost WIDTH = { 8 };
+
+    ghost value = { λ x. x };
+
+    fn read(bytes: &[u8], at: usize) -> u64 {
+        u64::from_le_bytes(bytes_at(bytes, at))
+    }
+
+    fn write(self, bytes: &mut [u8], at: usize) {
+        put_bytes(bytes, at, &self.to_le_bytes());
+    }
+
+    ghost zero = { λ x e. e };
 }
 
-pub fn long_at(host: &[u8; HOST_BYTES], at: usize) -> u64
-    requires { at + 7 < host_bytes }
-    ensures { result ≡ number_at 8 host.now at }
+fn bytes_at<const N: usize>(bytes: &[u8], at: usize) -> [u8; N]
+    requires { at + N ≤ length bytes.now }
+    ensures { result ≡ between at (at + N) bytes.now }
 {
-    let low = word_at(host, at);
-    let high = word_at(host, at + 4);
-    (low as u64) + 4294967296 * (high as u64)
+    let mut out = [0; N];
+    out.copy_from_slice(&bytes[at..at + N]);
+    out
 }
 
-pub fn put_long(all: &mut [u8], at: usize, x: u64)
-    requires { at + 7 < length all.old }
-    ensures { all.new ≡ sets all.old at (bytes_of 8 x) }
+pub fn put_bytes(bytes: &mut [u8], at: usize, new: &[u8])
+    requires { at + length new.now ≤ length bytes.old }
+    ensures { bytes.new ≡ sets bytes.old at new.now }
 {
-    put_word(&mut *all, at, (x % 4294967296) as u32);
-    put_word(all, at + 4, (x / 4294967296) as u32);
+    bytes[at..at + new.len()].copy_from_slice(new);
 }

@@ -1,50 +1,95 @@
-// The table of the row's parts: where each begins, behind the one before it, by the bytes of a number and how many numbers
-// there are. specs/Parts.antt has its twin.
+// The table of the row's parts: where each begins, behind the one before it, and how many numbers of which type it has.
+// specs/Parts.antt has its twin.
+ghost use Rattle.std.specs.Prelude.{◌≡◌, ◌+◌, ◌*◌, ◌≤◌, slice_index};
+ghost use Rattle.host.specs.Parts.{host_bytes, AtPlace, row_in, put};
+
+use crate::bytes::Number;
 use model::{ALL_BYTES, ALL_SEMAPHORES, PROCESSES, SETS};
+use std::marker::PhantomData;
 
-// Of each slot: its generation (2 bytes), its number of semaphores, its owner and owning group (4 bytes each), and its mode
-// (2 bytes).
-pub const GENERATIONS_AT: usize = 0;
+#[derive(Clone, Copy)]
+pub struct Part<T> {
+    pub at: usize,
+    pub count: usize,
+    pub of: PhantomData<T>,
+}
 
-pub const COUNTS_AT: usize = GENERATIONS_AT + 2 * SETS;
+impl<T: Number> Part<T> {
+    // The number at an index; 0 beyond the part.
+    pub fn get(self, host: &[u8; HOST_BYTES], i: usize) -> T
+        requires { self.at + T.WIDTH * self.count ≤ host_bytes }
+        ensures { AtPlace self.at T.WIDTH self.count (λ p. T.value result ≡ slice_index (row_in host.now p) i) }
+    {
+        if i < self.count {
+            T::read(host, self.at + T::WIDTH * i)
+        } else {
+            T::default()
+        }
+    }
 
-pub const OWNERS_AT: usize = COUNTS_AT + SETS;
+    // The number at an index becomes another; none does beyond the part.
+    pub fn put(self, host: &mut [u8; HOST_BYTES], i: usize, x: T)
+        requires { self.at + T.WIDTH * self.count ≤ host_bytes }
+        ensures { AtPlace self.at T.WIDTH self.count (λ p. row_in host.new ≡ put (row_in host.old) p i (T.value x)) }
+    {
+        if i < self.count {
+            x.write(host, self.at + T::WIDTH * i);
+        }
+    }
+}
 
-pub const OWNING_GROUPS_AT: usize = OWNERS_AT + 4 * SETS;
+macro_rules! part {
+    ($at:expr, $count:expr) => {
+        Part {
+            at: $at,
+            count: $count,
+            of: PhantomData,
+        }
+    };
+}
 
-pub const MODES_AT: usize = OWNING_GROUPS_AT + 4 * SETS;
+// Of each slot: its generation, its number of semaphores, its owner and owning group, and its mode.
+pub const GENERATIONS: Part<u16> = part!(0, SETS);
 
-// Of each process: its user and its group (4 bytes each).
-pub const USERS_AT: usize = MODES_AT + 2 * SETS;
+pub const COUNTS: Part<u8> = part!(GENERATIONS.at + 2 * SETS, SETS);
 
-pub const GROUPS_AT: usize = USERS_AT + 4 * PROCESSES;
+pub const OWNERS: Part<u32> = part!(COUNTS.at + SETS, SETS);
 
-// Of each semaphore, by slot and number: its value (2 bytes) and its last process.
-pub const VALUES_AT: usize = GROUPS_AT + 4 * PROCESSES;
+pub const OWNING_GROUPS: Part<u32> = part!(OWNERS.at + 4 * SETS, SETS);
 
-pub const LASTS_AT: usize = VALUES_AT + 2 * ALL_SEMAPHORES;
+pub const MODES: Part<u16> = part!(OWNING_GROUPS.at + 4 * SETS, SETS);
 
-// The time last told (8 bytes).
-pub const CLOCK_AT: usize = LASTS_AT + ALL_SEMAPHORES;
+// Of each process: its user and its group.
+pub const USERS: Part<u32> = part!(MODES.at + 2 * SETS, PROCESSES);
+
+pub const GROUPS: Part<u32> = part!(USERS.at + 4 * PROCESSES, PROCESSES);
+
+// Of each semaphore, by slot and number: its value and its last process.
+pub const VALUES: Part<u16> = part!(GROUPS.at + 4 * PROCESSES, ALL_SEMAPHORES);
+
+pub const LASTS: Part<u8> = part!(VALUES.at + 2 * ALL_SEMAPHORES, ALL_SEMAPHORES);
+
+// The time last told.
+pub const CLOCK: Part<u64> = part!(LASTS.at + ALL_SEMAPHORES, 1);
 
 // How many sleep, and their processes, oldest first.
-pub const ASLEEP_AT: usize = CLOCK_AT + 8;
+pub const ASLEEP: Part<u8> = part!(CLOCK.at + 8, 1);
 
-pub const ORDER_AT: usize = ASLEEP_AT + 1;
+pub const ORDER: Part<u8> = part!(ASLEEP.at + 1, PROCESSES);
 
 // What a process sleeps with: the slot, the bytes of its array, the mask of the semaphores that the array names, the time
-// when it went to sleep and its wait (8 bytes each).
-pub const SLEEPS_AT: usize = ORDER_AT + PROCESSES;
+// when it went to sleep and its wait.
+pub const SLEEPS: Part<u8> = part!(ORDER.at + PROCESSES, PROCESSES);
 
-pub const SIZES_AT: usize = SLEEPS_AT + PROCESSES;
+pub const SIZES: Part<u8> = part!(SLEEPS.at + PROCESSES, PROCESSES);
 
-pub const NAMES_AT: usize = SIZES_AT + PROCESSES;
+pub const NAMES: Part<u8> = part!(SIZES.at + PROCESSES, PROCESSES);
 
-pub const STARTS_AT: usize = NAMES_AT + PROCESSES;
+pub const STARTS: Part<u64> = part!(NAMES.at + PROCESSES, PROCESSES);
 
-pub const WAITS_AT: usize = STARTS_AT + 8 * PROCESSES;
+pub const WAITS: Part<u64> = part!(STARTS.at + 8 * PROCESSES, PROCESSES);
 
 // The bytes of the arrays.
-pub const ARRAYS_AT: usize = WAITS_AT + 8 * PROCESSES;
+pub const ARRAYS: Part<u8> = part!(WAITS.at + 8 * PROCESSES, ALL_BYTES);
 
-pub const HOST_BYTES: usize = ARRAYS_AT + ALL_BYTES;
+pub const HOST_BYTES: usize = ARRAYS.at + ALL_BYTES;

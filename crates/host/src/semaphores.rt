@@ -6,44 +6,32 @@ ghost use Rattle.model.specs.State.{row};
 ghost use Rattle.host.specs.Parts.{values, lasts, row_in, with, put};
 ghost use Rattle.host.specs.Rows.{from, masked};
 
-use crate::bytes::{half_at, put_half};
-use crate::parts::{HOST_BYTES, LASTS_AT, VALUES_AT};
-use model::{ALL_SEMAPHORES, SEMAPHORES, SETS};
+use crate::parts::{HOST_BYTES, LASTS, VALUES};
+use model::{SEMAPHORES, SETS};
+use std::array;
 
 // The value of a semaphore.
 pub fn value_at(host: &[u8; HOST_BYTES], i: usize) -> u16
     ensures { result ≡ slice_index (row_in host.now values) i }
 {
-    if i < ALL_SEMAPHORES {
-        half_at(host, VALUES_AT + 2 * i)
-    } else {
-        0
-    }
+    VALUES.get(host, i)
 }
 
 // A semaphore gets a value.
 pub fn put_value(host: &mut [u8; HOST_BYTES], i: usize, value: u16)
     ensures { row_in host.new ≡ put (row_in host.old) values i value }
 {
-    if i < ALL_SEMAPHORES {
-        put_half(host, VALUES_AT + 2 * i, value);
-    }
+    VALUES.put(host, i, value);
 }
 
 // The values of a slot.
 pub fn values_of(host: &[u8; HOST_BYTES], slot: usize) -> [u16; SEMAPHORES]
     ensures { result ≡ from 0 semaphores (row slot) (row_in host.now values) }
 {
-    let mut out = [0u16; SEMAPHORES];
     if SETS <= slot {
-        return out;
+        return [0; SEMAPHORES];
     }
-    let start = VALUES_AT + 2 * (slot * SEMAPHORES);
-    for j in 0..SEMAPHORES {
-        let value = half_at(host, start + 2 * j);
-        out[j] = value;
-    }
-    out
+    array::from_fn(|j| VALUES.get(host, slot * SEMAPHORES + j))
 }
 
 // A slot gets these values.
@@ -51,11 +39,8 @@ pub fn put_values(host: &mut [u8; HOST_BYTES], slot: usize, new: [u16; SEMAPHORE
     ensures { row_in host.new ≡ with (row_in host.old) values (sets (row_in host.old values) (row slot) new) }
 {
     if slot < SETS {
-        let all: &mut [u8] = host;
-        let start = VALUES_AT + 2 * (slot * SEMAPHORES);
-        for j in 0..SEMAPHORES {
-            let value = new[j];
-            put_half(&mut *all, start + 2 * j, value);
+        for (j, value) in new.iter().enumerate() {
+            VALUES.put(&mut *host, slot * SEMAPHORES + j, *value);
         }
     }
 }
@@ -64,26 +49,17 @@ pub fn put_values(host: &mut [u8; HOST_BYTES], slot: usize, new: [u16; SEMAPHORE
 pub fn last_at(host: &[u8; HOST_BYTES], i: usize) -> u8
     ensures { result ≡ slice_index (row_in host.now lasts) i }
 {
-    if i < ALL_SEMAPHORES {
-        host[LASTS_AT + i]
-    } else {
-        0
-    }
+    LASTS.get(host, i)
 }
 
 // The last processes of a slot.
 pub fn lasts_of(host: &[u8; HOST_BYTES], slot: usize) -> [u8; SEMAPHORES]
     ensures { result ≡ from 0 semaphores (row slot) (row_in host.now lasts) }
 {
-    let mut out = [0u8; SEMAPHORES];
-    if slot < SETS {
-        let start = slot * SEMAPHORES;
-        for j in 0..SEMAPHORES {
-            let last = last_at(host, start + j);
-            out[j] = last;
-        }
+    if SETS <= slot {
+        return [0; SEMAPHORES];
     }
-    out
+    array::from_fn(|j| LASTS.get(host, slot * SEMAPHORES + j))
 }
 
 // The process becomes the last of those semaphores of a slot that are in the mask.
@@ -91,12 +67,10 @@ pub fn put_lasts(host: &mut [u8; HOST_BYTES], slot: usize, mask: u8, process: u8
     ensures { row_in host.new ≡ with (row_in host.old) lasts (masked mask process semaphores (row slot) (row_in host.old lasts)) }
 {
     if slot < SETS {
-        let all: &mut [u8] = host;
-        let start = LASTS_AT + slot * SEMAPHORES;
         for j in 0..SEMAPHORES {
             let on = mask & (1u8 << j);
             if on != 0 {
-                all[start + j] = process;
+                LASTS.put(&mut *host, slot * SEMAPHORES + j, process);
             }
         }
     }

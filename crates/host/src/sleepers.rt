@@ -1,66 +1,52 @@
 // The sleepers: their order, and by process what each sleeps with.
-ghost use Rattle.std.specs.Prelude.{◌≡◌, ◌*◌, min, take, replicate, slice_index};
+ghost use Rattle.std.specs.Prelude.{◌≡◌, ◌+◌, ◌*◌, ◌<◌, ◌≤◌, MatchOption, min, take, replicate, slice_index};
 ghost use Rattle.std.proofs.lemmas.List.Edits.{sets};
-ghost use Rattle.model.specs.Limits.{array_bytes};
-ghost use Rattle.host.specs.Parts.{asleep, order, sleeps_at, sizes, names, arrays, row_in, with, put};
+ghost use Rattle.model.specs.Limits.{processes, array_bytes};
+ghost use Rattle.host.specs.Parts.{asleep, order, sleeps_at, sizes, names, arrays, place, row_in, with, put};
 ghost use Rattle.host.specs.Holding.{entry, with_call, room_in, array_in};
 
-use crate::parts::{ARRAYS_AT, ASLEEP_AT, HOST_BYTES, NAMES_AT, ORDER_AT, SIZES_AT, SLEEPS_AT};
+use crate::bytes::put_bytes;
+use crate::parts::{ARRAYS, ASLEEP, HOST_BYTES, NAMES, ORDER, SIZES, SLEEPS};
 use model::{ARRAY_BYTES, PROCESSES};
-use std::num::wrapping_sub_u8;
 
 // How many sleep.
 pub fn asleep_of(host: &[u8; HOST_BYTES]) -> usize
     ensures { result ≡ slice_index (row_in host.now asleep) 0 }
 {
-    let all: &[u8] = host;
-    all[ASLEEP_AT] as usize
+    ASLEEP.get(host, 0) as usize
 }
 
 pub fn put_asleep(host: &mut [u8; HOST_BYTES], count: u8)
     ensures { row_in host.new ≡ put (row_in host.old) asleep 0 count }
 {
-    let all: &mut [u8] = host;
-    all[ASLEEP_AT] = count;
+    ASLEEP.put(host, 0, count);
 }
 
 // The process of the sleeper at a position.
 pub fn process_at(host: &[u8; HOST_BYTES], at: usize) -> u8
     ensures { result ≡ slice_index (row_in host.now order) at }
 {
-    if at < PROCESSES {
-        host[ORDER_AT + at]
-    } else {
-        0
-    }
+    ORDER.get(host, at)
 }
 
 pub fn put_process(host: &mut [u8; HOST_BYTES], at: usize, process: u8)
     ensures { row_in host.new ≡ put (row_in host.old) order at process }
 {
-    let all: &mut [u8] = host;
-    if at < PROCESSES {
-        all[ORDER_AT + at] = process;
-    }
+    ORDER.put(host, at, process);
 }
 
 // Where a process stands in a part by process; beyond it for no process.
 pub fn entry_of(process: u8) -> usize
     ensures { result ≡ entry process }
 {
-    wrapping_sub_u8(process, 1) as usize
+    process.wrapping_sub(1) as usize
 }
 
 // The slot that a process sleeps at, as the byte that it is in the row, and as an index.
 pub fn slot_byte(host: &[u8; HOST_BYTES], process: u8) -> u8
     ensures { result ≡ slice_index (row_in host.now sleeps_at) (entry process) }
 {
-    let i = entry_of(process);
-    if i < PROCESSES {
-        host[SLEEPS_AT + i]
-    } else {
-        0
-    }
+    SLEEPS.get(host, entry_of(process))
 }
 
 pub fn slot_at(host: &[u8; HOST_BYTES], process: u8) -> usize
@@ -73,44 +59,45 @@ pub fn slot_at(host: &[u8; HOST_BYTES], process: u8) -> usize
 pub fn size_at(host: &[u8; HOST_BYTES], process: u8) -> usize
     ensures { result ≡ slice_index (row_in host.now sizes) (entry process) }
 {
-    let all: &[u8] = host;
-    let i = entry_of(process);
-    if i < PROCESSES {
-        all[SIZES_AT + i] as usize
-    } else {
-        0
-    }
+    SIZES.get(host, entry_of(process)) as usize
 }
 
 // The semaphores that a sleeping process's array names, as a mask.
 pub fn names_at(host: &[u8; HOST_BYTES], process: u8) -> u8
     ensures { result ≡ slice_index (row_in host.now names) (entry process) }
 {
-    let i = entry_of(process);
-    if i < PROCESSES { host[NAMES_AT + i] } else { 0 }
+    NAMES.get(host, entry_of(process))
 }
 
 // What a process sleeps with, but for the array: its slot, the array's bytes, and what it names.
 pub fn put_call(host: &mut [u8; HOST_BYTES], process: u8, slot: u8, size: u8, names: u8)
     ensures { row_in host.new ≡ with_call (row_in host.old) process slot size names }
 {
-    let all: &mut [u8] = host;
+    let i = entry_of(process);
+    SLEEPS.put(&mut *host, i, slot);
+    SIZES.put(&mut *host, i, size);
+    NAMES.put(host, i, names);
+}
+
+// Where in the row the room for a process's array begins.
+fn room_at(process: u8) -> Option<usize>
+    ensures { MatchOption result (processes ≤ entry process) (λ at. (entry process < processes) × (at ≡ (place arrays).at + array_bytes * entry process)) }
+{
     let i = entry_of(process);
     if i < PROCESSES {
-        all[SLEEPS_AT + i] = slot;
-        all[SIZES_AT + i] = size;
-        all[NAMES_AT + i] = names;
+        Some(ARRAYS.at + ARRAY_BYTES * i)
+    } else {
+        None
     }
 }
 
-// Of so many bytes, as many as an array has room for.
-fn fitting(size: usize) -> usize
-    ensures { result ≡ min array_bytes size }
+// The room for a process's array, lent from the row: the array, and zeros behind it.
+pub fn room_of(host: &[u8; HOST_BYTES], process: u8) -> &[u8]
+    ensures { result.now ≡ room_in (row_in host.now) process }
 {
-    if size < ARRAY_BYTES {
-        size
-    } else {
-        ARRAY_BYTES
+    match room_at(process) {
+        Some(at) => &host[at..at + ARRAY_BYTES],
+        None => &host[..0],
     }
 }
 
@@ -118,43 +105,18 @@ fn fitting(size: usize) -> usize
 pub fn array_of(host: &[u8; HOST_BYTES], process: u8) -> &[u8]
     ensures { result.now ≡ array_in (row_in host.now) process }
 {
-    let all: &[u8] = host;
-    let i = entry_of(process);
-    if PROCESSES <= i {
-        return &all[..0];
-    }
-    let from = ARRAYS_AT + ARRAY_BYTES * i;
-    let to = from + fitting(size_at(host, process));
-    &all[from..to]
-}
-
-// The room for a process's array, lent from the row: the array, and zeros behind it.
-pub fn room_of(host: &[u8; HOST_BYTES], process: u8) -> &[u8]
-    ensures { result.now ≡ room_in (row_in host.now) process }
-{
-    let all: &[u8] = host;
-    let i = entry_of(process);
-    if PROCESSES <= i {
-        return &all[..0];
-    }
-    let from = ARRAYS_AT + ARRAY_BYTES * i;
-    let to = from + ARRAY_BYTES;
-    &all[from..to]
+    let room = room_of(host, process);
+    let size = room.len().min(size_at(host, process));
+    &room[..size]
 }
 
 // The array of a process is stored, as much of it as there is room for.
 pub fn store_array(host: &mut [u8; HOST_BYTES], process: u8, bytes: &[u8])
     ensures { row_in host.new ≡ with (row_in host.old) arrays (sets (row_in host.old arrays) (array_bytes * entry process) (take array_bytes bytes.now)) }
 {
-    let all: &mut [u8] = host;
-    let i = entry_of(process);
-    if i < PROCESSES {
-        let from = ARRAYS_AT + ARRAY_BYTES * i;
-        let size = fitting(bytes.len());
-        for j in 0..size {
-            let byte = bytes[j];
-            all[from + j] = byte;
-        }
+    if let Some(at) = room_at(process) {
+        let size = bytes.len().min(ARRAY_BYTES);
+        put_bytes(host, at, &bytes[..size]);
     }
 }
 
@@ -162,13 +124,7 @@ pub fn store_array(host: &mut [u8; HOST_BYTES], process: u8, bytes: &[u8])
 pub fn clear_array(host: &mut [u8; HOST_BYTES], process: u8, size: usize)
     ensures { row_in host.new ≡ with (row_in host.old) arrays (sets (row_in host.old arrays) (array_bytes * entry process) (replicate (min array_bytes size) 0)) }
 {
-    let all: &mut [u8] = host;
-    let i = entry_of(process);
-    if i < PROCESSES {
-        let from = ARRAYS_AT + ARRAY_BYTES * i;
-        let fits = fitting(size);
-        for j in 0..fits {
-            all[from + j] = 0;
-        }
+    if let Some(at) = room_at(process) {
+        host[at..at + size.min(ARRAY_BYTES)].fill(0);
     }
 }

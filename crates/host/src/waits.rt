@@ -5,10 +5,9 @@ ghost use Rattle.host.specs.Parts.{row_in};
 ghost use Rattle.host.specs.Waits.{wait_number, wait_of};
 ghost use Rattle.host.specs.Holding.{start_in, wait_in, with_wait};
 
-use crate::bytes::{long_at, put_long};
-use crate::parts::{HOST_BYTES, STARTS_AT, WAITS_AT};
+use crate::parts::{HOST_BYTES, STARTS, WAITS};
 use crate::sleepers::entry_of;
-use model::{PROCESSES, Wait};
+use model::Wait;
 
 // A wait as the number that the row has of it.
 pub fn wait_number(wait: Wait) -> u64
@@ -24,36 +23,23 @@ pub fn wait_number(wait: Wait) -> u64
 fn start_at(host: &[u8; HOST_BYTES], process: u8) -> u64
     ensures { result ≡ start_in (row_in host.now) process }
 {
-    let i = entry_of(process);
-    if i < PROCESSES {
-        long_at(host, STARTS_AT + 8 * i)
-    } else {
-        0
-    }
+    STARTS.get(host, entry_of(process))
 }
 
 // The wait of a process, as a number.
 fn wait_at(host: &[u8; HOST_BYTES], process: u8) -> u64
     ensures { result ≡ wait_in (row_in host.now) process }
 {
-    let i = entry_of(process);
-    if i < PROCESSES {
-        long_at(host, WAITS_AT + 8 * i)
-    } else {
-        0
-    }
+    WAITS.get(host, entry_of(process))
 }
 
 // A process sleeps since then, with this wait.
 pub fn put_wait(host: &mut [u8; HOST_BYTES], process: u8, start: u64, wait: u64)
     ensures { row_in host.new ≡ with_wait (row_in host.old) process start wait }
 {
-    let all: &mut [u8] = host;
     let i = entry_of(process);
-    if i < PROCESSES {
-        put_long(&mut *all, STARTS_AT + 8 * i, start);
-        put_long(all, WAITS_AT + 8 * i, wait);
-    }
+    STARTS.put(&mut *host, i, start);
+    WAITS.put(host, i, wait);
 }
 
 // Is the wait of a process over at this time? Start plus wait is asked for by the difference, which is never too large.

@@ -1,4 +1,4 @@
-use Rattle.std.proofs.Common.{true, refl, arith, rules}
+use Rattle.std.proofs.Common.{refl, arith, rules}
 use Rattle.model.specs.Limits.{semaphores}
 use Rattle.model.specs.State.{row}
 use Rattle.host.specs.Parts.{lasts}
@@ -14,16 +14,15 @@ loop-j-preserved c =
     let l = c.loop-j in
     let a = c.args in
     let n = c.loop-j-test.true in
-    let next = mask_more lasts semaphores (row a.slot) a.mask a.process a.host.now refl (omega arith) (omega arith) l.all l.j in
     elim c.if-on-ne0.branch [
-      | then-on-ne0 w ↦ rw w.all-is (next a.process true l.invariant n (bit_on a.mask l.j n w.if-on-ne0.true) refl)
-      | else-on-ne0 w ↦ rw w.all-is (mask_kept lasts semaphores (row a.slot) a.mask a.process a.host.now refl (omega arith) (omega arith) l.all l.j l.invariant n (bit_off a.mask l.j n w.if-on-ne0.false))
+      | then-on-ne0 w ↦ rw w.host-is (mask_more lasts semaphores (row a.slot) a.mask a.process a.host.now l.host l.j l.invariant n _ (bit_on a.mask l.j n w.if-on-ne0.true) (search rules) (w.put.ensures lasts refl))
+      | else-on-ne0 w ↦ rw w.host-is (mask_kept lasts semaphores (row a.slot) a.mask a.process a.host.now l.host l.j l.invariant n (bit_off a.mask l.j n w.if-on-ne0.false))
     ]
 
 pub returns-after-loop-j : goal.returns-after-loop-j
 returns-after-loop-j c =
     let a = c.args in
-    mask_all lasts semaphores (row a.slot) a.mask a.process a.host.now c.loop-j.all c.loop-j.j c.loop-j.invariant c.loop-j-test.false
+    mask_all lasts semaphores (row a.slot) a.mask a.process a.host.now c.loop-j.host c.loop-j.j c.loop-j.invariant c.loop-j-test.false
 
 pub returns-else-slot-lt-SETS : goal.returns-else-slot-lt-SETS
 returns-else-slot-lt-SETS c =

@@ -6,7 +6,7 @@ use Rattle.host.proofs.SleeperLaws.{Writing}
 use Rattle.host.proofs.semaphores.put_values.Given as goal
 
 abbrev pub invariant-loop-j : goal.invariant-loop-j
-invariant-loop-j l = Writing values l.initial.all (row l.slot) l.new l.all l.j
+invariant-loop-j l = Writing values l.initial.host (row l.slot) l.value-items l.host l.j
 
 abbrev pub decreases-loop-j : goal.decreases-loop-j
 decreases-loop-j l = semaphores - l.j

@@ -1,15 +1,11 @@
-use Rattle.host.proofs.SleeperLaws.{array_there, array_none}
-use Rattle.std.proofs.Common.{rules}
+use Rattle.std.proofs.Common.{ap, ap₂, ◌∙◌, ℕ, List, take}
+use Rattle.host.specs.Holding.{array_in}
+use Rattle.host.proofs.SleeperLaws.{take_there}
 use Rattle.host.proofs.sleepers.array_of.Goals as goal
 
-pub returns-then-i-ge-PROCESSES : goal.returns-then-i-ge-PROCESSES
-returns-then-i-ge-PROCESSES c =
-    let a = c.args in
-    let e = c.entry_of-i in
-    array_none a.host.now a.process e.result e.ensures c.if-i-ge-PROCESSES.true
-
 pub returns : goal.returns
+unfolding array_in
 returns c =
-    let a = c.args in
-    let e = c.entry_of-i in
-    array_there a.host.now a.process e.result e.ensures c.fitting.result c.size_at.result (search rules) c.if-i-ge-PROCESSES.false c.size_at.ensures c.fitting.ensures
+    let room = c.room_of-room.result.now in
+    ap (λ (n : ℕ). take n room) c.min-size.ensures ∙ take_there c.size_at.result room
+    ∙ ap₂ (λ (n : ℕ) (l : List ℕ). take n l) c.size_at.ensures c.room_of-room.ensures

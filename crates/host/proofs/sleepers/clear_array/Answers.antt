@@ -1,29 +1,31 @@
-use Rattle.std.proofs.Common.{ℕ, ◌+◌, ◌*◌, min, replicate, refl, arith, lit<, rules}
-use native.Mathlib.Nat.{min-le_left}
+use Rattle.std.proofs.Common.{◌≡◌, ◌+◌, ◌-◌, ◌*◌, ℕ, List, min, length, replicate, ap, ◌∙◌, refl, arith, rules}
 use lib.ListN.{length-replicate}
+use native.Mathlib.Nat.{min_comm, min-le_left}
+use Rattle.std.specs.List.{between}
+use Rattle.std.proofs.lemmas.List.Edits.{length-between}
 use Rattle.model.specs.Limits.{array_bytes}
-use Rattle.host.specs.Parts.{arrays, place}
-use Rattle.host.proofs.SleeperLaws.{write_none, write_byte, write_all, write_away, zeros_at}
+use Rattle.host.specs.Parts.{arrays, row_in}
+use Rattle.host.specs.Holding.{entry}
+use Rattle.host.proofs.RowLaws.{sets_part}
+use Rattle.host.proofs.SleeperLaws.{bytes_write, write_away, zeros_at}
 use Rattle.host.proofs.sleepers.clear_array.Goals as goal
 
-pub loop-j-init : goal.loop-j-init
-loop-j-init c = let a = c.args in write_none arrays a.host.now _ _ (search rules)
-
-pub loop-j-preserved : goal.loop-j-preserved
-loop-j-preserved c =
-    let f = c.fitting-fits in
-    let e = c.entry_of-i in
-    let l = c.loop-j in
-    let n = length-replicate {A = ℕ} f.result 0 in
-    let k = min-le_left array_bytes c.args.size in
-    write_byte arrays l.invariant 0 ((place arrays).at + array_bytes * e.result) refl (omega (arith, n, c.loop-j-test.true)) (omega (arith, n, f.ensures, k)) (zeros_at f.result l.j) (lit< tt) refl
-
-pub returns-after-loop-j : goal.returns-after-loop-j
-returns-after-loop-j c =
-    let f = c.fitting-fits in
-    rw (← c.entry_of-i.ensures, ← f.ensures) (write_all arrays c.loop-j.invariant (omega (arith, length-replicate {A = ℕ} f.result 0, c.loop-j-test.false)))
-
-pub returns-else-i-lt-PROCESSES : goal.returns-else-i-lt-PROCESSES
-returns-else-i-lt-PROCESSES c =
+pub returns-in-Some : goal.returns-in-Some
+returns-in-Some c =
     let a = c.args in
-    rw (← c.entry_of-i.ensures) (write_away arrays a.host.now (array_bytes * c.entry_of-i.result) (replicate (min array_bytes a.size) 0) (omega arith))
+    let (l, e) = c.in-Some.ensures in
+    let at = c.in-Some.at in
+    let n = c.min.result in
+    let zeros : List ℕ = replicate (min array_bytes a.size) 0 in
+    let fits : n ≡ min array_bytes a.size = c.min.ensures ∙ min_comm a.size array_bytes in
+    let less = min-le_left array_bytes a.size in
+    let long : length zeros ≡ at + n - at = omega (arith, length-replicate {A = ℕ} (min array_bytes a.size) 0, fits) in
+    let lent : length (between at (at + n) a.host.now) ≡ min array_bytes a.size = length-between a.host.now at (at + n) (omega arith) ∙ omega (arith, fits) in
+    let filled : c.fill.new.self ≡ zeros = c.fill.ensures.after (λ y k. k) ∙ ap (λ (k : ℕ). replicate k 0) lent in
+    ap row_in (sets_part zeros a.host.now _ at _ filled long (omega arith) ∙ rw e)
+    ∙ bytes_write arrays refl zeros (array_bytes * entry a.process) a.host.now (search rules) (omega (arith, long)) (λ i m. omega (arith, zeros_at (min array_bytes a.size) i))
+
+pub returns-in_default : goal.returns-in_default
+returns-in_default c =
+    let a = c.args in
+    write_away arrays a.host.now (array_bytes * entry a.process) (replicate (min array_bytes a.size) 0) (omega (arith, c.in_default.ensures))

@@ -1,15 +1,12 @@
-use Rattle.host.proofs.SleeperLaws.{room_there, room_none}
 use Rattle.std.proofs.Common.{rules}
+use Rattle.host.proofs.SleeperLaws.{room_there, room_none}
 use Rattle.host.proofs.sleepers.room_of.Goals as goal
 
-pub returns-then-i-ge-PROCESSES : goal.returns-then-i-ge-PROCESSES
-returns-then-i-ge-PROCESSES c =
+pub returns-in-Some : goal.returns-in-Some
+returns-in-Some c =
     let a = c.args in
-    let e = c.entry_of-i in
-    room_none a.host.now a.process e.result e.ensures c.if-i-ge-PROCESSES.true
+    let (l, e) = c.in-Some.ensures in
+    room_there a.host.now a.process c.in-Some.at (search rules) l e
 
-pub returns : goal.returns
-returns c =
-    let a = c.args in
-    let e = c.entry_of-i in
-    room_there a.host.now a.process e.result e.ensures (search rules) c.if-i-ge-PROCESSES.false
+pub returns-in-None : goal.returns-in-None
+returns-in-None c = room_none c.args.host.now c.args.process c.in-None.ensures

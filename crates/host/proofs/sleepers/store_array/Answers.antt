@@ -1,26 +1,22 @@
-use Rattle.std.proofs.Common.{◌+◌, ◌*◌, take, sym, refl, arith, length-take, get_or-take, rules}
+use Rattle.std.proofs.Common.{◌≡◌, ◌*◌, ◌<◌, ℕ, take, length, get_or, ap, ◌∙◌, refl, arith, length-take, get_or-take, rules}
 use Rattle.model.specs.Limits.{array_bytes}
-use Rattle.host.specs.Parts.{arrays, place}
-use Rattle.host.proofs.SleeperLaws.{write_none, write_byte, write_all, write_away}
+use Rattle.host.specs.Parts.{arrays, row_in}
+use Rattle.host.specs.Holding.{entry}
+use Rattle.host.proofs.SleeperLaws.{bytes_write, write_away, take_there}
 use Rattle.host.proofs.sleepers.store_array.Goals as goal
 
-pub loop-j-init : goal.loop-j-init
-loop-j-init c = let a = c.args in write_none arrays a.host.now _ _ (search rules)
-
-pub loop-j-preserved : goal.loop-j-preserved
-loop-j-preserved c =
+pub returns-in-Some : goal.returns-in-Some
+returns-in-Some c =
     let a = c.args in
-    let e = c.entry_of-i in
-    let l = c.loop-j in
+    let (l, e) = c.in-Some.ensures in
+    let stored : take c.min-size.result a.bytes.now ≡ take array_bytes a.bytes.now = ap (λ (n : ℕ). take n a.bytes.now) c.min-size.ensures ∙ take_there array_bytes a.bytes.now in
     let n = length-take array_bytes a.bytes.now in
-    write_byte arrays l.invariant _ ((place arrays).at + array_bytes * e.result) refl (omega (arith, n)) (omega (arith, n)) (sym (get_or-take array_bytes a.bytes.now l.j 0 (omega arith))) (c.shared_slice_known-in-loop-j-1.given l.j).fits refl
+    let small : (i : ℕ) → i < length (take array_bytes a.bytes.now) → get_or (take array_bytes a.bytes.now) i 0 < 256 =
+    λ i m. rw (get_or-take array_bytes a.bytes.now i 0 (omega (arith, n, m))) (c.type_inv.bytes i).fits in
+    ap row_in (c.put_bytes.ensures ∙ rw (stored, e))
+    ∙ bytes_write arrays refl (take array_bytes a.bytes.now) (array_bytes * entry a.process) a.host.now (search rules) (omega (arith, n)) small
 
-pub returns-after-loop-j : goal.returns-after-loop-j
-returns-after-loop-j c =
+pub returns-in_default : goal.returns-in_default
+returns-in_default c =
     let a = c.args in
-    rw (← c.entry_of-i.ensures) (write_all arrays c.loop-j.invariant (omega (arith, length-take array_bytes a.bytes.now)))
-
-pub returns-else-i-lt-PROCESSES : goal.returns-else-i-lt-PROCESSES
-returns-else-i-lt-PROCESSES c =
-    let a = c.args in
-    rw (← c.entry_of-i.ensures) (write_away arrays a.host.now (array_bytes * c.entry_of-i.result) (take array_bytes a.bytes.now) (omega arith))
+    write_away arrays a.host.now (array_bytes * entry a.process) (take array_bytes a.bytes.now) (omega (arith, c.in_default.ensures))
