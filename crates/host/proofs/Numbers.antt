@@ -1,6 +1,6 @@
 -- Numbers in a row of bytes: reading one, writing one, and what a write leaves alone.
-use Rattle.std.proofs.Common.{◌≡◌, ℕ, zero, suc, ◌+◌, ◌*◌, ◌/◌, ◌%◌, ◌^◌, ◌<◌, ◌≤◌, List, [], ◌∷◌, ◌++◌, length, get_or, set, sym, refl, ap, ◌∙◌, subst, ap₂, le_of_suc-le-suc, not-suc-le-zero, add-zero, mod-lt, mul_assoc, mul_comm, pow-suc, mul-zero, mul-suc, add-one, arith, length-set, get_or-set_other, get_or-set_same}
-use native.Mathlib.Nat.{pow-succ', div-add-mod, one-le-pow}
+use Rattle.std.proofs.Common.{◌≡◌, ℕ, zero, suc, ◌+◌, ◌*◌, ◌/◌, ◌%◌, ◌^◌, ◌<◌, ◌≤◌, List, [], ◌∷◌, length, get_or, set, sym, refl, ap, ◌∙◌, subst, ap₂, le_of_suc-le-suc, not-suc-le-zero, add-zero, mul_assoc, mul_comm, pow-suc, mul-zero, mul-suc, add-one, arith, length-set, get_or-set_other, get_or-set_same}
+use native.Mathlib.Nat.{pow-succ'}
 use lib.ListN.{get_or-eq_default}
 use lib.Seq.{sets, length-sets}
 use Rattle.std.specs.Int.{byte_at, byte_worth, bytes_low_first, sum_through}
@@ -8,7 +8,6 @@ use Rattle.std.specs.List.{between}
 use Rattle.std.proofs.lemmas.List.Edits.{get_or-between}
 use Rattle.std.proofs.Math.Nat.{div-div-eq-div-mul}
 use Rattle.host.specs.Parts.{number_at, bytes_of, numbers_from}
-use Rattle.host.proofs.RowLaws.{sets_append}
 
 -- two rows of bytes agree from a place to another
 abbrev pub Same : ℕ → ℕ → List ℕ → List ℕ → Type 0
@@ -43,7 +42,7 @@ number_same zero h h' k s = refl
 number_same (suc w) h h' k s =
     ap₂ (λ (x y : ℕ). x + 256 * y) (s k (omega arith) (omega arith)) (number_same w h h' (k + 1) (λ j a b. s j (omega arith) (omega arith)))
 
--- a number of a + b bytes is one of a bytes, and behind it one of b: as it is read, in its bytes, and as it is written
+-- a number of a + b bytes is one of a bytes, and behind it one of b
 further : (a n : ℕ) → 256 ^ suc a * n ≡ 256 * (256 ^ a * n)
 further a n = rw pow-succ' (mul_assoc 256 (256 ^ a) n)
 
@@ -57,27 +56,6 @@ number_joined (suc a) b h k =
     let e : suc a + b ≡ suc (a + b) = omega arith in
     let z : k + suc a ≡ k + 1 + a = omega arith in
     rw (e, z) (omega (arith, further a (number_at b h (k + 1 + a)), number_joined a b h (k + 1)))
-
-bytes_joined : (a b low high : ℕ) → low < 256 ^ a → bytes_of (a + b) (low + 256 ^ a * high) ≡ bytes_of a low ++ bytes_of b high
-unfolding bytes_of
-bytes_joined zero b low high l =
-    let e : 0 + b ≡ b = omega arith in
-    let z : low + 256 ^ 0 * high ≡ high = omega arith in
-    rw (e, z)
-bytes_joined (suc a) b low high l =
-    let e : suc a + b ≡ suc (a + b) = omega arith in
-    let first : (low + 256 ^ suc a * high) % 256 ≡ low % 256 = omega (arith, further a high) in
-    let more : (low + 256 ^ suc a * high) / 256 ≡ low / 256 + 256 ^ a * high = omega (arith, further a high) in
-    rw (e, first, more) (ap (λ (r : List ℕ). low % 256 ∷ r) (bytes_joined a b (low / 256) high (omega (arith, l, pow-suc 256 a))))
-
-pub sets_joined : (a b : ℕ) (h : List ℕ) (k x : ℕ) → sets (sets h k (bytes_of a (x % 256 ^ a))) (k + a) (bytes_of b (x / 256 ^ a)) ≡ sets h k (bytes_of (a + b) x)
-sets_joined a b h k x =
-    let low = bytes_of a (x % 256 ^ a) in
-    let high = bytes_of b (x / 256 ^ a) in
-    let whole : x % 256 ^ a + 256 ^ a * (x / 256 ^ a) ≡ x = omega (arith, div-add-mod x (256 ^ a)) in
-    ap (λ (n : ℕ). sets (sets h k low) (k + n) high) (sym (length_bytes a (x % 256 ^ a)))
-    ∙ sym (sets_append low high h k)
-    ∙ ap (λ (l : List ℕ). sets h k l) (sym (bytes_joined a b (x % 256 ^ a) (x / 256 ^ a) (mod-lt x (one-le-pow a 256 (omega arith)))) ∙ ap (bytes_of (a + b)) whole)
 
 -- stores leave what lies below and above them
 sets_below : (vs l : List ℕ) (i j : ℕ) → j < i → get_or (sets l i vs) j 0 ≡ get_or l j 0

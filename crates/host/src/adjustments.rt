@@ -6,6 +6,7 @@ ghost use Rattle.host.specs.Rows.{from, undo_at};
 
 use crate::sleepers::entry_of;
 use model::{ALL_ADJUSTMENTS, ALL_SEMAPHORES, PROCESSES, SEMAPHORES, SETS};
+use std::array;
 
 // Where the adjustments of a process for a slot begin; nowhere for no process or no slot.
 fn start_of(process: u8, slot: usize) -> Option<usize>
@@ -27,11 +28,10 @@ pub fn adjustments_of(
 ) -> [i16; SEMAPHORES]
     ensures { result ≡ from (pos 0) semaphores (undo_at process slot) adjustments.now }
 {
-    let mut out = [0; SEMAPHORES];
-    if let Some(start) = start_of(process, slot) {
-        out.copy_from_slice(&adjustments[start..start + SEMAPHORES]);
-    }
-    out
+    let Some(start) = start_of(process, slot) else {
+        return [0; SEMAPHORES];
+    };
+    array::from_fn(|j| adjustments[start + j])
 }
 
 // A process gets these adjustments for a slot.

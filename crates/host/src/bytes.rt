@@ -53,7 +53,7 @@ impl Number for u16 {
     }
 
     fn write(self, bytes: &mut [u8], at: usize) {
-        put_bytes(bytes, at, &self.to_le_bytes());
+        put_bytes(bytes, at, &u16::to_le_bytes(self));
     }
 
     ghost zero = { λ x e. e };
@@ -71,7 +71,7 @@ impl Number for u32 {
     }
 
     fn write(self, bytes: &mut [u8], at: usize) {
-        put_bytes(bytes, at, &self.to_le_bytes());
+        put_bytes(bytes, at, &u32::to_le_bytes(self));
     }
 
     ghost zero = { λ x e. e };
@@ -89,7 +89,7 @@ impl Number for u64 {
     }
 
     fn write(self, bytes: &mut [u8], at: usize) {
-        put_bytes(bytes, at, &self.to_le_bytes());
+        put_bytes(bytes, at, &u64::to_le_bytes(self));
     }
 
     ghost zero = { λ x e. e };

@@ -1,18 +1,18 @@
-use Rattle.std.proofs.Common.{◌+◌, pos, sym, ◌∙◌, arith}
-use Rattle.std.proofs.lemmas.Slice.{between_is}
+use Rattle.std.proofs.Common.{ℕ, pos, sym, ap, ◌∙◌, arith, rules}
 use Rattle.model.specs.Limits.{semaphores}
-use Rattle.host.specs.Rows.{undo_at}
-use Rattle.host.proofs.RowLaws.{from_slice, from_beyond}
+use Rattle.host.specs.Rows.{from, undo_at}
+use Rattle.host.proofs.RowLaws.{from_each, from_beyond}
 use Rattle.host.proofs.adjustments.adjustments_of.Goals as goal
-
-pub returns-in-Some : goal.returns-in-Some
-returns-in-Some c =
-    let a = c.args in
-    let start = c.in-Some.start in
-    let (e, l) = c.in-Some.ensures in
-    rw (← e) (c.copy_from_slice.ensures.after ∙ between_is a.adjustments.now start (start + semaphores) ∙ sym (from_slice (pos 0) semaphores start a.adjustments.now (omega arith)))
 
 pub returns-in_default : goal.returns-in_default
 returns-in_default c =
     let a = c.args in
     sym (from_beyond (pos 0) semaphores (undo_at a.process a.slot) a.adjustments.now (omega (arith, c.in_default.ensures)))
+
+pub returns : goal.returns
+returns c =
+    let a = c.args in
+    let r = c.from_fn.ensures.items in
+    let (e, l) = c.in-Some.ensures in
+    from_each (pos 0) semaphores c.in-Some.start a.adjustments.now c.from_fn.result r.long (λ i l. let (p, q, k) = r.at i (pos 0) l in search rules)
+    ∙ ap (λ (k : ℕ). from (pos 0) semaphores k a.adjustments.now) e

@@ -1,7 +1,8 @@
-use Rattle.std.proofs.Common.{◌≡◌, ◌*◌, ◌<◌, ℕ, take, length, get_or, ap, ◌∙◌, refl, arith, length-take, get_or-take, rules}
+use Rattle.std.proofs.Common.{◌≡◌, ◌*◌, ◌<◌, ℕ, List, take, length, get_or, ap, ap₂, ◌∙◌, refl, arith, length-take, get_or-take, rules}
 use Rattle.model.specs.Limits.{array_bytes}
 use Rattle.host.specs.Parts.{arrays, row_in}
 use Rattle.host.specs.Holding.{entry}
+use lib.Seq.{sets}
 use Rattle.host.proofs.SleeperLaws.{bytes_write, write_away, take_there}
 use Rattle.host.proofs.sleepers.store_array.Goals as goal
 
@@ -13,7 +14,7 @@ returns-in-Some c =
     let n = length-take array_bytes a.bytes.now in
     let small : (i : ℕ) → i < length (take array_bytes a.bytes.now) → get_or (take array_bytes a.bytes.now) i 0 < 256 =
     λ i m. rw (get_or-take array_bytes a.bytes.now i 0 (omega (arith, n, m))) (c.type_inv.bytes i).fits in
-    ap row_in (c.put_bytes.ensures ∙ rw (stored, e))
+    ap row_in c.put_bytes.ensures ∙ ap₂ (λ (k : ℕ) (vs : List ℕ). row_in (sets a.host.now k vs)) e stored
     ∙ bytes_write arrays refl (take array_bytes a.bytes.now) (array_bytes * entry a.process) a.host.now (search rules) (omega (arith, n)) small
 
 pub returns-in_default : goal.returns-in_default
