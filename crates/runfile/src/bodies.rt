@@ -8,7 +8,7 @@ ghost use Rattle.model.specs.Events.{event_of};
 ghost use Rattle.runfile.specs.Fields.{byte_at};
 ghost use Rattle.runfile.specs.Body.{operate_kind, fixed_of, handed_in, event_in, size_at, body_code, event_at, handed_at};
 
-use crate::fields::{byte_at, first, half_at, long_at, signed_at, word_at};
+use crate::fields::{byte_at, bytes_at, first};
 use model::{Event, OPERATION_BYTES, VALUE_BYTES, Wait};
 
 // Each kind, and the bytes of its body. An operate has more bytes, for its operations, and a setting for its values.
@@ -175,12 +175,12 @@ fn event_in(body: &[u8]) -> Event
     let kind = byte_at(body, 0);
     // These two only some kinds have.
     let process = byte_at(body, 1);
-    let identifier = signed_at(body, 2);
+    let identifier = i32::from_le_bytes(bytes_at(body, 2));
     match kind {
         CREATE => Event::Create {
             process,
             count: byte_at(body, 2),
-            mode: half_at(body, 3),
+            mode: u16::from_le_bytes(bytes_at(body, 3)),
         },
         OPERATE => Event::Operate {
             process,
@@ -190,8 +190,8 @@ fn event_in(body: &[u8]) -> Event
         SET_VALUE => Event::SetValue {
             process,
             identifier,
-            number: half_at(body, 6),
-            value: signed_at(body, 8),
+            number: u16::from_le_bytes(bytes_at(body, 6)),
+            value: i32::from_le_bytes(bytes_at(body, 8)),
         },
         REMOVE => Event::Remove {
             process,
@@ -202,15 +202,15 @@ fn event_in(body: &[u8]) -> Event
         QUERY => Event::Query {
             process,
             identifier,
-            number: half_at(body, 6),
+            number: u16::from_le_bytes(bytes_at(body, 6)),
         },
         OPERATE_WITHIN => Event::Operate {
             process,
             identifier,
-            wait: Some(word_at(body, 6)),
+            wait: Some(u32::from_le_bytes(bytes_at(body, 6))),
         },
         CLOCK => Event::Clock {
-            time: long_at(body, 1),
+            time: u64::from_le_bytes(bytes_at(body, 1)),
         },
         SET_ALL => Event::SetAll {
             process,
@@ -222,8 +222,8 @@ fn event_in(body: &[u8]) -> Event
         },
         ACT_AS => Event::ActAs {
             process,
-            user: word_at(body, 2),
-            group: word_at(body, 6),
+            user: u32::from_le_bytes(bytes_at(body, 2)),
+            group: u32::from_le_bytes(bytes_at(body, 6)),
         },
         _ => no_event(),
     }

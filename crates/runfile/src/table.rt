@@ -4,7 +4,7 @@ ghost use Rattle.runfile.specs.Table.{count_in, table_end};
 ghost use Rattle.runfile.specs.File.{bodies_of, bad_code, code_of_file};
 
 use crate::bodies::body_code;
-use crate::fields::{half_at, half_in};
+use crate::fields::bytes_at;
 
 // The longest file, and the bytes of its head and of an entry of its table.
 pub const FILE_MAX: usize = 65535;
@@ -20,7 +20,7 @@ pub fn count(file: &[u8]) -> usize
     if file.len() < HEAD_BYTES {
         0
     } else {
-        half_at(file, 0) as usize
+        u16::from_le_bytes(bytes_at(file, 0)) as usize
     }
 }
 
@@ -35,8 +35,8 @@ fn bodies_code(file: &[u8], n: usize) -> u16
     let mut k = 0;
     while k < n {
         let entry = HEAD_BYTES + ENTRY_BYTES * k;
-        let offset = half_in(file, entry) as usize;
-        let size = half_in(file, entry + 2) as usize;
+        let offset = u16::from_le_bytes(bytes_at(file, entry)) as usize;
+        let size = u16::from_le_bytes(bytes_at(file, entry + 2)) as usize;
         if offset != at {
             return 202;
         }
@@ -59,7 +59,7 @@ pub fn code(file: &[u8]) -> u16
     if file.len() < HEAD_BYTES {
         return 201;
     }
-    let n = half_in(file, 0) as usize;
+    let n = u16::from_le_bytes(bytes_at(file, 0)) as usize;
     if file.len() < HEAD_BYTES + ENTRY_BYTES * n {
         return 201;
     }

@@ -8,12 +8,13 @@ use borrow.Author.Tests.{eq-eqb, ne_eqb}
 use Rattle.runfile.specs.Body.{body_code}
 use Rattle.runfile.specs.File.{bodies_of, bad_code}
 use Rattle.runfile.proofs.Loops.{table_from, first_of, first_stays, code_from, code_whole, code_next, code_stop, code_end}
+use Rattle.runfile.proofs.Numbers.{half_is}
 use Rattle.runfile.proofs.table.bodies_code.Goals as goal
 use Rattle.runfile.proofs.table.bodies_code.Goals.{After-loop-k, Joined-code-eq0, then-code-eq0, else-code-eq0}
 
 -- the code of the next body counts if that so far is 0
 code_is : (c : Joined-code-eq0)
-    → c.if-code-eq0.code ≡ first_of c.loop-k.code (body_code c.args.file.now c.loop-k.at c.half_in-size.result)
+    → c.if-code-eq0.code ≡ first_of c.loop-k.code (body_code c.args.file.now c.loop-k.at c.from_le_bytes-size.result)
 code_is c =
     elim c.if-code-eq0.branch [
       | then-code-eq0 w ↦ w.code-is ∙ rw w.if-code-eq0.true w.body_code-code.ensures
@@ -37,16 +38,16 @@ pub returns-then-offset-at : goal.returns-then-offset-at
 returns-then-offset-at c =
     let a = c.args in
     let l = c.loop-k in
-    sym (l.invariant.2 ∙ code_stop a.file.now a.n l.k l.code l.at (search rules) (λ e. c.if-offset-at.true (c.half_in-offset.ensures ∙ e)))
+    sym (l.invariant.2 ∙ code_stop a.file.now a.n l.k l.code l.at (search rules) (λ e. c.if-offset-at.true (c.from_le_bytes-offset.ensures ∙ half_is _ _ _ c.bytes_at.ensures ∙ e)))
 
 pub loop-k-preserved : goal.loop-k-preserved
 loop-k-preserved c =
     let a = c.args in
     let l = c.loop-k in (
       omega arith,
-      omega (arith, c.half_in-offset.type_inv, c.half_in-size.type_inv),
+      omega (arith, c.from_le_bytes-offset.type_inv, c.from_le_bytes-size.type_inv),
       l.invariant.2
-          ∙ code_next a.file.now a.n l.k l.code l.at (search rules) (sym c.half_in-offset.ensures ∙ c.if-offset-at.false) c.half_in-size.ensures (code_is (goal.at.loop-k-preserved c).Joined-code-eq0),
+          ∙ code_next a.file.now a.n l.k l.code l.at (search rules) (sym (c.from_le_bytes-offset.ensures ∙ half_is _ _ _ c.bytes_at.ensures) ∙ c.if-offset-at.false) (c.from_le_bytes-size.ensures ∙ half_is _ _ _ c.bytes_at-in-loop-k.ensures) (code_is (goal.at.loop-k-preserved c).Joined-code-eq0),
     )
 
 pub returns-then-at-file : goal.returns-then-at-file
