@@ -34,15 +34,13 @@ pub fn start(file: &[u8], out: &mut [u8]) -> Progress
     ensures out_after { wrote_in (host_of fresh_state) result out.new ≡ begun file.now out.old }
     ensures written_in_bounds { result.written ≤ length out.new }
 {
-    let code = runfile::code(file);
-    let mut left = 0;
-    let mut written = 0;
-    if code == 0 {
-        left = runfile::count(file);
-        written = head_line(out, 0, left);
-    } else {
-        written = bad_line(out, 0, code);
-    }
+    let (left, written) = match runfile::check(file) {
+        Ok(()) => {
+            let events = runfile::count(file);
+            (events, head_line(out, 0, events))
+        }
+        Err(bad) => (0, bad_line(out, 0, u16::from(bad))),
+    };
     Progress {
         position: 0,
         left: left,

@@ -7,10 +7,14 @@ use native.Mathlib.Omega.{arith}
 use lib.Dec.{eqb}
 use lib.ListN.{length}
 use borrow.Author.Tests.{eq-eqb, ne_eqb}
+use Rattle.std.specs.Prelude.{Result, Ok, Err}
+use Rattle.std.specs.Result.{result_and}
 use Rattle.model.specs.Events.{Event}
 use Rattle.runfile.specs.Table.{head_bytes, entry_bytes, Entry, entry_at, entries_from, table_of, table_end, chains}
 use Rattle.runfile.specs.Body.{body_code}
-use Rattle.runfile.specs.File.{File, bad, good, before, events_of, bodies_of, bad_code}
+use Rattle.runfile.specs.declared.table.BadFile.{BadFile}
+use Rattle.runfile.specs.declared.table.BadFile.TheVariants.{Table, Offsets, Kind, Size}
+use Rattle.runfile.specs.File.{File, bad, good, before, events_of, bodies_of, bad_code, code_in}
 
 -- ---- the entries that are left of n when k are passed
 
@@ -54,6 +58,14 @@ unfolding bad_code
 first_before zero e (bad code) = refl
 first_before zero e (good es) = refl
 first_before (suc code) e rest = refl
+
+-- .. as `and` keeps the first error
+pub code_and : (a b : Result Unit BadFile) → code_in (result_and a b) ≡ first_of (code_in a) (code_in b)
+code_and (Ok x) b = refl
+code_and (Err Table) b = refl
+code_and (Err Offsets) b = refl
+code_and (Err Kind) b = refl
+code_and (Err Size) b = refl
 
 -- ---- the code of a file whose next body is due at a position, with the code of those before it
 

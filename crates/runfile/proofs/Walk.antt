@@ -12,7 +12,9 @@ use Rattle.model.specs.Events.{Event}
 use Rattle.model.proofs.CheckLaws.{and_true}
 use Rattle.runfile.specs.Table.{file_max, head_bytes, entry_bytes, count_in, Entry, entry_at, entries_from, table_of, table_end, chains}
 use Rattle.runfile.specs.Body.{size_at, event_at, body_code, next_at, events_from}
-use Rattle.runfile.specs.File.{File, bad, good, before, events_of, file_of, bad_code, code_of_file}
+use Rattle.runfile.specs.declared.table.BadFile.{BadFile}
+use Rattle.runfile.specs.declared.table.BadFile.TheVariants.{Table, Offsets, Kind, Size}
+use Rattle.runfile.specs.File.{File, bad, good, before, events_of, file_of, bad_code, code_of_file, code_of}
 
 -- so many bodies from a position on, the last of which ends the file
 pub data Bodies (file : List ℕ) : ℕ → ℕ → Type 0 where
@@ -26,6 +28,13 @@ no_code n z = absurd (no z)
   where
     no : suc n ≡ 0 → ⊥
     no z = omega arith
+
+-- nothing that is wrong has the code 0
+pub code_of_bad : (e : BadFile) → code_of e ≡ 0 → ⊥
+code_of_bad Table h = omega arith
+code_of_bad Offsets h = omega arith
+code_of_bad Kind h = omega arith
+code_of_bad Size h = omega arith
 
 -- the five tests of a file that passed
 record Passed (long head table chain : Bool) (rest : File) : Type 0 where

@@ -1,7 +1,9 @@
 -- A run file's events, or the code it is refused with.
-use Rattle.std.specs.Prelude.{ℕ, zero, suc, cond, List, [], ◌∷◌, ltb, length}
+use Rattle.std.specs.Prelude.{ℕ, zero, suc, cond, List, [], ◌∷◌, ltb, length, Result, Ok, Err}
 use Rattle.model.specs.Events.{Event}
 use Rattle.runfile.specs.Table.{file_max, head_bytes, count_in, Entry, table_of, table_end, chains}
+use Rattle.runfile.specs.declared.table.BadFile.{BadFile}
+use Rattle.runfile.specs.declared.table.BadFile.TheVariants.{Table, Offsets, Kind, Size}
 use Rattle.runfile.specs.Body.{body_code, event_at}
 
 pub data File : Type 0 where
@@ -38,3 +40,15 @@ bad_code (good es) = 0
 
 abbrev pub code_of_file : List ℕ → ℕ
 code_of_file file = bad_code (file_of file)
+
+-- the code of what is wrong with a file: as above for the whole, and as in `body_code` for a body
+abbrev pub code_of : BadFile → ℕ
+code_of Table = 201
+code_of Offsets = 202
+code_of Kind = 203
+code_of Size = 204
+
+-- the code that a check answers, 0 if all is good
+abbrev pub code_in : {T : Type 0} → Result T BadFile → ℕ
+code_in (Ok x) = 0
+code_in (Err e) = code_of e

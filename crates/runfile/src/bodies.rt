@@ -7,8 +7,10 @@ ghost use Rattle.model.specs.Limits.{operation_bytes};
 ghost use Rattle.model.specs.Events.{event_of};
 ghost use Rattle.runfile.specs.Fields.{byte_at};
 ghost use Rattle.runfile.specs.Body.{operate_kind, fixed_of, handed_in, event_in, size_at, body_code, event_at, handed_at};
+ghost use Rattle.runfile.specs.File.{code_in};
 
 use crate::fields::{byte_at, bytes_at, first};
+use crate::table::BadFile;
 use model::{Event, OPERATION_BYTES, VALUE_BYTES, Wait};
 
 // Each kind, and the bytes of its body. An operate has more bytes, for its operations, and a setting for its values.
@@ -143,18 +145,18 @@ pub fn size_at(file: &[u8], at: usize) -> usize
     }
 }
 
-// The code of a body at a position, of so many bytes.
-pub fn body_code(file: &[u8], at: usize, size: usize) -> u16
-    ensures { result ≡ body_code file.now at size }
+// Checks a body at a position, of so many bytes.
+pub fn check_body(file: &[u8], at: usize, size: usize) -> Result<(), BadFile>
+    ensures { code_in result ≡ body_code file.now at size }
 {
     if size == 0 {
-        return 204;
+        return Err(BadFile::Size);
     }
     let due = size_at(file, at);
     if due == 0 {
-        return 203;
+        return Err(BadFile::Kind);
     }
-    if size == due { 0 } else { 204 }
+    if size == due { Ok(()) } else { Err(BadFile::Size) }
 }
 
 // What stands for the event of an unknown kind, which no good file has.

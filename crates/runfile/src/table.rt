@@ -1,9 +1,9 @@
 // The table of contents, and the check of a whole file.
 ghost use Rattle.std.specs.Prelude.{◌≡◌, ◌≤◌, length};
 ghost use Rattle.runfile.specs.Table.{count_in, table_end};
-ghost use Rattle.runfile.specs.File.{bodies_of, bad_code, code_of_file};
+ghost use Rattle.runfile.specs.File.{bodies_of, bad_code, code_in, code_of, code_of_file};
 
-use crate::bodies::body_code;
+use crate::bodies::check_body;
 use crate::fields::bytes_at;
 
 // The longest file, and the bytes of its head and of an entry of its table.
@@ -12,6 +12,33 @@ pub const FILE_MAX: usize = 65535;
 pub const HEAD_BYTES: usize = 2;
 
 pub const ENTRY_BYTES: usize = 4;
+
+// What is wrong with a file.
+#[derive(Clone, Copy, Debug, PartialEq, Eq)]
+pub enum BadFile {
+    // The file is too long, or its head or table is cut off.
+    Table,
+    // A body doesn't begin where the one before ended, or the last doesn't end with the file.
+    Offsets,
+    // A body's kind is none.
+    Kind,
+    // A body is empty, or has another length than its kind and number want.
+    Size,
+}
+
+// The code that the file is refused with.
+impl From<BadFile> for u16 {
+    ghost from_gives = { λ bad code. code ≡ code_of bad };
+
+    fn from(bad: BadFile) -> u16 {
+        match bad {
+            BadFile::Table => 201,
+            BadFile::Offsets => 202,
+            BadFile::Kind => 203,
+            BadFile::Size => 204,
+        }
+    }
+}
 
 // The number of events, as the head has it.
 pub fn count(file: &[u8]) -> usize
@@ -24,44 +51,43 @@ pub fn count(file: &[u8]) -> usize
     }
 }
 
-// The code of n bodies: 202 unless each begins where the one before ended and the file ends with the last, else that of the
-// first bad one, 0 if there is none.
-fn bodies_code(file: &[u8], n: usize) -> u16
+// Checks n bodies: each begins where the one before ended, and the file ends with the last; else the first bad one decides.
+fn check_bodies(file: &[u8], n: usize) -> Result<(), BadFile>
     requires { table_end n ≤ length file.now }
-    ensures { result ≡ bad_code (bodies_of file.now n) }
+    ensures { code_in result ≡ bad_code (bodies_of file.now n) }
 {
     let mut at = HEAD_BYTES + ENTRY_BYTES * n;
-    let mut code = 0;
-    let mut k = 0;
-    while k < n {
+    let mut bodies = Ok(());
+    for k in 0..n {
         let entry = HEAD_BYTES + ENTRY_BYTES * k;
         let offset = u16::from_le_bytes(bytes_at(file, entry)) as usize;
         let size = u16::from_le_bytes(bytes_at(file, entry + 2)) as usize;
         if offset != at {
-            return 202;
+            return Err(BadFile::Offsets);
         }
-        if code == 0 {
-            code = body_code(file, at, size);
-        }
+        bodies = bodies.and(check_body(file, at, size));
         at += size;
-        k += 1;
     }
-    if at == file.len() { code } else { 202 }
+    if at == file.len() {
+        bodies
+    } else {
+        Err(BadFile::Offsets)
+    }
 }
 
-// The code that a file is refused with, 0 if it is good.
-pub fn code(file: &[u8]) -> u16
-    ensures { result ≡ code_of_file file.now }
+// Whether a file is good.
+pub fn check(file: &[u8]) -> Result<(), BadFile>
+    ensures { code_in result ≡ code_of_file file.now }
 {
     if FILE_MAX < file.len() {
-        return 201;
+        return Err(BadFile::Table);
     }
     if file.len() < HEAD_BYTES {
-        return 201;
+        return Err(BadFile::Table);
     }
     let n = u16::from_le_bytes(bytes_at(file, 0)) as usize;
     if file.len() < HEAD_BYTES + ENTRY_BYTES * n {
-        return 201;
+        return Err(BadFile::Table);
     }
-    bodies_code(file, n)
+    check_bodies(file, n)
 }

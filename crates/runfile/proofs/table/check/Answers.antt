@@ -3,14 +3,14 @@ use borrow.Author.Tests.{lt-ltb, le-ltb}
 use Rattle.runfile.specs.Table.{count_in}
 use Rattle.runfile.specs.File.{file_of, bad_code}
 use Rattle.runfile.proofs.Numbers.{half_is}
-use Rattle.runfile.proofs.table.code.Goals as goal
-use Rattle.runfile.proofs.table.code.Goals.{After-from_le_bytes-n}
+use Rattle.runfile.proofs.table.check.Goals as goal
+use Rattle.runfile.proofs.table.check.Goals.{After-from_le_bytes-n}
 
 count-is : (c : After-from_le_bytes-n) → count_in c.args.file.now ≡ c.from_le_bytes-n.result
 unfolding count_in
 count-is c = rw (le-ltb _ _ c.if-file-lt-HEAD_BYTES.false) (sym (c.from_le_bytes-n.ensures ∙ half_is _ 0 _ c.bytes_at.ensures))
 
--- `runfile::table::code` meets its contract, test by test.
+-- `runfile::table::check` meets its contract, test by test.
 pub returns-then-file-gt-FILE_MAX : goal.returns-then-file-gt-FILE_MAX
 unfolding file_of bad_code
 returns-then-file-gt-FILE_MAX c = rw (lt-ltb _ _ c.if-file-gt-FILE_MAX.true)
@@ -27,4 +27,4 @@ pub returns : goal.returns
 unfolding file_of
 returns c =
     rw (count-is (goal.at.returns c).After-from_le_bytes-n, le-ltb _ _ c.if-file-gt-FILE_MAX.false, le-ltb _ _ c.if-file-lt-HEAD_BYTES.false, le-ltb _ _ c.if-file-n.false)
-    c.bodies_code.ensures
+    c.check_bodies.ensures

@@ -1,8 +1,8 @@
 use borrow.Author.Tests.{eq-eqb, ne_eqb}
 use Rattle.runfile.specs.Body.{body_code}
-use Rattle.runfile.proofs.bodies.body_code.Goals as goal
+use Rattle.runfile.proofs.bodies.check_body.Goals as goal
 
--- `runfile::bodies::body_code` meets its contract, test by test.
+-- `runfile::bodies::check_body` meets its contract, test by test.
 pub returns-then-size-eq0 : goal.returns-then-size-eq0
 unfolding body_code
 returns-then-size-eq0 c = rw (eq-eqb _ _ c.if-size-eq0.true)
