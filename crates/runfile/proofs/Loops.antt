@@ -13,7 +13,7 @@ use Rattle.model.specs.Events.{Event}
 use Rattle.runfile.specs.Table.{head_bytes, entry_bytes, Entry, entry_at, entries_from, table_of, table_end, chains}
 use Rattle.runfile.specs.Body.{body_code}
 use Rattle.runfile.specs.declared.table.BadFile.{BadFile}
-use Rattle.runfile.specs.declared.table.BadFile.TheVariants.{Table, Offsets, Kind, Size}
+use Rattle.runfile.specs.declared.table.BadFile.TheVariants.{Table, Offsets, UnknownKind, Size}
 use Rattle.runfile.specs.File.{File, bad, good, before, events_of, bodies_of, bad_code, code_in}
 
 -- ---- the entries that are left of n when k are passed
@@ -64,7 +64,7 @@ pub code_and : (a b : Result Unit BadFile) → code_in (result_and a b) ≡ firs
 code_and (Ok x) b = refl
 code_and (Err Table) b = refl
 code_and (Err Offsets) b = refl
-code_and (Err Kind) b = refl
+code_and (Err UnknownKind) b = refl
 code_and (Err Size) b = refl
 
 -- ---- the code of a file whose next body is due at a position, with the code of those before it

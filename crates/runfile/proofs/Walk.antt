@@ -13,7 +13,7 @@ use Rattle.model.proofs.CheckLaws.{and_true}
 use Rattle.runfile.specs.Table.{file_max, head_bytes, entry_bytes, count_in, Entry, entry_at, entries_from, table_of, table_end, chains}
 use Rattle.runfile.specs.Body.{size_at, event_at, body_code, next_at, events_from}
 use Rattle.runfile.specs.declared.table.BadFile.{BadFile}
-use Rattle.runfile.specs.declared.table.BadFile.TheVariants.{Table, Offsets, Kind, Size}
+use Rattle.runfile.specs.declared.table.BadFile.TheVariants.{Table, Offsets, UnknownKind, Size}
 use Rattle.runfile.specs.File.{File, bad, good, before, events_of, file_of, bad_code, code_of_file, code_of}
 
 -- so many bodies from a position on, the last of which ends the file
@@ -33,7 +33,7 @@ no_code n z = absurd (no z)
 pub code_of_bad : (e : BadFile) → code_of e ≡ 0 → ⊥
 code_of_bad Table h = omega arith
 code_of_bad Offsets h = omega arith
-code_of_bad Kind h = omega arith
+code_of_bad UnknownKind h = omega arith
 code_of_bad Size h = omega arith
 
 -- the five tests of a file that passed

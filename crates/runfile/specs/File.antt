@@ -3,7 +3,7 @@ use Rattle.std.specs.Prelude.{ℕ, zero, suc, cond, List, [], ◌∷◌, ltb, le
 use Rattle.model.specs.Events.{Event}
 use Rattle.runfile.specs.Table.{file_max, head_bytes, count_in, Entry, table_of, table_end, chains}
 use Rattle.runfile.specs.declared.table.BadFile.{BadFile}
-use Rattle.runfile.specs.declared.table.BadFile.TheVariants.{Table, Offsets, Kind, Size}
+use Rattle.runfile.specs.declared.table.BadFile.TheVariants.{Table, Offsets, UnknownKind, Size}
 use Rattle.runfile.specs.Body.{body_code, event_at}
 
 pub data File : Type 0 where
@@ -45,7 +45,7 @@ code_of_file file = bad_code (file_of file)
 abbrev pub code_of : BadFile → ℕ
 code_of Table = 201
 code_of Offsets = 202
-code_of Kind = 203
+code_of UnknownKind = 203
 code_of Size = 204
 
 -- the code that a check answers, 0 if all is good

@@ -2,4 +2,5 @@
 pub mod Fields
 pub mod Table
 pub mod Body
+pub mod Kinds
 pub mod File

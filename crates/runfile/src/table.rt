@@ -21,7 +21,7 @@ pub enum BadFile {
     // A body doesn't begin where the one before ended, or the last doesn't end with the file.
     Offsets,
     // A body's kind is none.
-    Kind,
+    UnknownKind,
     // A body is empty, or has another length than its kind and number want.
     Size,
 }
@@ -34,7 +34,7 @@ impl From<BadFile> for u16 {
         match bad {
             BadFile::Table => 201,
             BadFile::Offsets => 202,
-            BadFile::Kind => 203,
+            BadFile::UnknownKind => 203,
             BadFile::Size => 204,
         }
     }

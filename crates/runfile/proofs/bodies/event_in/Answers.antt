@@ -2,73 +2,59 @@ use mathlib.Core.Path.{◌≡◌, sym, ◌∙◌}
 use mir.Syntax.{w32}
 use mir.Val.{to_z, of_z}
 use mir.Facts.{to_z-of_z}
-use borrow.Author.Rules.{rules}
-use Rattle.std.proofs.Common.{tests}
-use Rattle.runfile.specs.Body.{kind_in, process_in, identifier_in, handed_in, event_in}
+use Rattle.runfile.specs.Body.{identifier_in, handed_in, event_in}
 use Rattle.runfile.proofs.Numbers.{half_is, word_is, long_is, signed_is}
 use Rattle.runfile.proofs.bodies.event_in.Goals as goal
 use Rattle.runfile.proofs.bodies.event_in.Goals.{After-from_le_bytes-identifier}
 
--- ---- what is read of any body
-
-kind-is : (c : After-from_le_bytes-identifier) → kind_in c.args.body.now ≡ c.byte_at-kind.result
-kind-is c = sym c.byte_at-kind.ensures
-
-process_is : (c : After-from_le_bytes-identifier) → c.byte_at-process.result ≡ process_in c.args.body.now
-process_is c = c.byte_at-process.ensures
-
+-- the identifier, of each kind that names a set
 identifier-is : (c : After-from_le_bytes-identifier) → to_z w32 (of_z w32 c.from_le_bytes-identifier.result) ≡ identifier_in c.args.body.now
 identifier-is c = to_z-of_z {w = w32} (record { sfits = c.from_le_bytes-identifier.type_inv }) ∙ c.from_le_bytes-identifier.ensures ∙ signed_is _ 2 _ c.bytes_at.ensures
 
--- ---- its event
-pub returns-in-1 : goal.returns-in-1
+pub returns-in-Create : goal.returns-in-Create
 unfolding event_in
-returns-in-1 c = rw (kind-is (goal.at.returns-in-1 c).After-from_le_bytes-identifier, c.in-1.is, process_is (goal.at.returns-in-1 c).After-from_le_bytes-identifier, c.byte_at.ensures, c.from_le_bytes.ensures, half_is _ 3 _ c.bytes_at-in-1.ensures)
+returns-in-Create c = rw (sym c.requires, c.in-Create.is, c.byte_at-process.ensures, c.byte_at.ensures, c.from_le_bytes.ensures, half_is _ 3 _ c.bytes_at-in-Create.ensures)
 
-pub returns-in-2 : goal.returns-in-2
+pub returns-in-Operate : goal.returns-in-Operate
 unfolding event_in handed_in
-returns-in-2 c = rw (kind-is (goal.at.returns-in-2 c).After-from_le_bytes-identifier, c.in-2.is, process_is (goal.at.returns-in-2 c).After-from_le_bytes-identifier, identifier-is (goal.at.returns-in-2 c).After-from_le_bytes-identifier)
+returns-in-Operate c = rw (sym c.requires, c.in-Operate.is, c.byte_at-process.ensures, identifier-is (goal.at.returns-in-Operate c).After-from_le_bytes-identifier)
 
-pub returns-in-3 : goal.returns-in-3
+pub returns-in-SetValue : goal.returns-in-SetValue
 unfolding event_in
-returns-in-3 c = rw (kind-is (goal.at.returns-in-3 c).After-from_le_bytes-identifier, c.in-3.is, process_is (goal.at.returns-in-3 c).After-from_le_bytes-identifier, identifier-is (goal.at.returns-in-3 c).After-from_le_bytes-identifier, c.from_le_bytes-in-3.ensures, half_is _ 6 _ c.bytes_at-in-3.ensures, to_z-of_z (record { sfits = c.from_le_bytes-in-3-2.type_inv }), c.from_le_bytes-in-3-2.ensures, signed_is _ 8 _ c.bytes_at-in-3-2.ensures)
+returns-in-SetValue c = rw (sym c.requires, c.in-SetValue.is, c.byte_at-process.ensures, identifier-is (goal.at.returns-in-SetValue c).After-from_le_bytes-identifier, c.from_le_bytes-in-SetValue.ensures, half_is _ 6 _ c.bytes_at-in-SetValue.ensures, to_z-of_z (record { sfits = c.from_le_bytes-in-SetValue-2.type_inv }), c.from_le_bytes-in-SetValue-2.ensures, signed_is _ 8 _ c.bytes_at-in-SetValue-2.ensures)
 
-pub returns-in-4 : goal.returns-in-4
+pub returns-in-Remove : goal.returns-in-Remove
 unfolding event_in
-returns-in-4 c = rw (kind-is (goal.at.returns-in-4 c).After-from_le_bytes-identifier, c.in-4.is, process_is (goal.at.returns-in-4 c).After-from_le_bytes-identifier, identifier-is (goal.at.returns-in-4 c).After-from_le_bytes-identifier)
+returns-in-Remove c = rw (sym c.requires, c.in-Remove.is, c.byte_at-process.ensures, identifier-is (goal.at.returns-in-Remove c).After-from_le_bytes-identifier)
 
-pub returns-in-5 : goal.returns-in-5
+pub returns-in-Signal : goal.returns-in-Signal
 unfolding event_in
-returns-in-5 c = rw (kind-is (goal.at.returns-in-5 c).After-from_le_bytes-identifier, c.in-5.is, process_is (goal.at.returns-in-5 c).After-from_le_bytes-identifier)
+returns-in-Signal c = rw (sym c.requires, c.in-Signal.is, c.byte_at-process.ensures)
 
-pub returns-in-6 : goal.returns-in-6
+pub returns-in-Exit : goal.returns-in-Exit
 unfolding event_in
-returns-in-6 c = rw (kind-is (goal.at.returns-in-6 c).After-from_le_bytes-identifier, c.in-6.is, process_is (goal.at.returns-in-6 c).After-from_le_bytes-identifier)
+returns-in-Exit c = rw (sym c.requires, c.in-Exit.is, c.byte_at-process.ensures)
 
-pub returns-in-7 : goal.returns-in-7
+pub returns-in-Query : goal.returns-in-Query
 unfolding event_in
-returns-in-7 c = rw (kind-is (goal.at.returns-in-7 c).After-from_le_bytes-identifier, c.in-7.is, process_is (goal.at.returns-in-7 c).After-from_le_bytes-identifier, identifier-is (goal.at.returns-in-7 c).After-from_le_bytes-identifier, c.from_le_bytes-in-7.ensures, half_is _ 6 _ c.bytes_at-in-7.ensures)
+returns-in-Query c = rw (sym c.requires, c.in-Query.is, c.byte_at-process.ensures, identifier-is (goal.at.returns-in-Query c).After-from_le_bytes-identifier, c.from_le_bytes-in-Query.ensures, half_is _ 6 _ c.bytes_at-in-Query.ensures)
 
-pub returns-in-8 : goal.returns-in-8
+pub returns-in-OperateWithin : goal.returns-in-OperateWithin
 unfolding event_in handed_in
-returns-in-8 c = rw (kind-is (goal.at.returns-in-8 c).After-from_le_bytes-identifier, c.in-8.is, process_is (goal.at.returns-in-8 c).After-from_le_bytes-identifier, identifier-is (goal.at.returns-in-8 c).After-from_le_bytes-identifier, c.from_le_bytes-in-8.ensures, word_is _ 6 _ c.bytes_at-in-8.ensures)
+returns-in-OperateWithin c = rw (sym c.requires, c.in-OperateWithin.is, c.byte_at-process.ensures, identifier-is (goal.at.returns-in-OperateWithin c).After-from_le_bytes-identifier, c.from_le_bytes-in-OperateWithin.ensures, word_is _ 6 _ c.bytes_at-in-OperateWithin.ensures)
 
-pub returns-in-9 : goal.returns-in-9
+pub returns-in-Clock : goal.returns-in-Clock
 unfolding event_in
-returns-in-9 c = rw (kind-is (goal.at.returns-in-9 c).After-from_le_bytes-identifier, c.in-9.is, c.from_le_bytes-in-9.ensures, long_is _ 1 _ c.bytes_at-in-9.ensures)
+returns-in-Clock c = rw (sym c.requires, c.in-Clock.is, c.from_le_bytes-in-Clock.ensures, long_is _ 1 _ c.bytes_at-in-Clock.ensures)
 
-pub returns-in-10 : goal.returns-in-10
+pub returns-in-SetAll : goal.returns-in-SetAll
 unfolding event_in handed_in
-returns-in-10 c = rw (kind-is (goal.at.returns-in-10 c).After-from_le_bytes-identifier, c.in-10.is, process_is (goal.at.returns-in-10 c).After-from_le_bytes-identifier, identifier-is (goal.at.returns-in-10 c).After-from_le_bytes-identifier)
+returns-in-SetAll c = rw (sym c.requires, c.in-SetAll.is, c.byte_at-process.ensures, identifier-is (goal.at.returns-in-SetAll c).After-from_le_bytes-identifier)
 
-pub returns-in-11 : goal.returns-in-11
+pub returns-in-ReadAll : goal.returns-in-ReadAll
 unfolding event_in
-returns-in-11 c = rw (kind-is (goal.at.returns-in-11 c).After-from_le_bytes-identifier, c.in-11.is, process_is (goal.at.returns-in-11 c).After-from_le_bytes-identifier, identifier-is (goal.at.returns-in-11 c).After-from_le_bytes-identifier)
+returns-in-ReadAll c = rw (sym c.requires, c.in-ReadAll.is, c.byte_at-process.ensures, identifier-is (goal.at.returns-in-ReadAll c).After-from_le_bytes-identifier)
 
-pub returns-in-12 : goal.returns-in-12
+pub returns-in-ActAs : goal.returns-in-ActAs
 unfolding event_in
-returns-in-12 c = rw (kind-is (goal.at.returns-in-12 c).After-from_le_bytes-identifier, c.in-12.is, process_is (goal.at.returns-in-12 c).After-from_le_bytes-identifier, c.from_le_bytes-in-12.ensures, word_is _ 2 _ c.bytes_at-in-12.ensures, c.from_le_bytes-in-12-2.ensures, word_is _ 6 _ c.bytes_at-in-12-2.ensures)
-
-pub returns-in_default : goal.returns-in_default
-unfolding event_in
-returns-in_default c = rw c.no_event.ensures (search (tests, rules))
+returns-in-ActAs c = rw (sym c.requires, c.in-ActAs.is, c.byte_at-process.ensures, c.from_le_bytes-in-ActAs.ensures, word_is _ 2 _ c.bytes_at-in-ActAs.ensures, c.from_le_bytes-in-ActAs-2.ensures, word_is _ 6 _ c.bytes_at-in-ActAs-2.ensures)

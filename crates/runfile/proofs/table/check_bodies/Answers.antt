@@ -5,7 +5,6 @@ use lib.Dec.{eqb}
 use lib.ListN.{length}
 use borrow.Author.Rules.{rules}
 use borrow.Author.Tests.{eq-eqb, ne_eqb}
-use Rattle.runfile.specs.Body.{body_code}
 use Rattle.runfile.specs.File.{bodies_of, bad_code, code_in}
 use Rattle.runfile.proofs.Loops.{table_from, first_of, code_and, code_from, code_whole, code_next, code_stop, code_end}
 use Rattle.runfile.proofs.Numbers.{half_is}
