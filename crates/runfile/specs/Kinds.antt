@@ -1,10 +1,10 @@
 -- The kinds as code has them.
-use Rattle.std.specs.Prelude.{ℕ, ◌<◌, ◌≡◌, ◌≢◌, List, Result, MatchResult}
+use Rattle.std.specs.Prelude.{ℕ, ◌*◌, ◌<◌, ◌≤◌, ◌≡◌, ◌≢◌, List, Result, MatchResult}
 use Rattle.runfile.specs.declared.table.BadFile.{BadFile}
 use Rattle.runfile.specs.declared.table.BadFile.TheVariants.{UnknownKind}
 use Rattle.runfile.specs.declared.bodies.Kind.{Kind}
 use Rattle.runfile.specs.declared.bodies.Kind.TheVariants.{Create, Operate, SetValue, Remove, Signal, Exit, Query, OperateWithin, Clock, SetAll, ReadAll, ActAs}
-use Rattle.runfile.specs.Body.{create_kind, operate_kind, set_value_kind, remove_kind, signal_kind, exit_kind, query_kind, operate_within_kind, clock_kind, set_all_kind, read_all_kind, act_as_kind, size_in}
+use Rattle.runfile.specs.Body.{create_kind, operate_kind, set_value_kind, remove_kind, signal_kind, exit_kind, query_kind, operate_within_kind, clock_kind, set_all_kind, read_all_kind, act_as_kind, fixed_of, each_of, kind_in, number_in, size_in}
 
 -- the number of each
 abbrev pub number_of : Kind → ℕ
@@ -21,10 +21,20 @@ number_of SetAll = set_all_kind
 number_of ReadAll = read_all_kind
 number_of ActAs = act_as_kind
 
+abbrev pub IsNoKind : ℕ → Type 0
+IsNoKind number = (kind : Kind) → number_of kind ≢ number
+
 -- the kind with a number, or that there is none
 abbrev pub Names : ℕ → Result Kind BadFile → Type 0
-Names number r = MatchResult r (λ kind. number_of kind ≡ number) (λ e. (e ≡ UnknownKind) × ((kind : Kind) → number_of kind ≢ number))
+Names number r = MatchResult r (λ kind. number_of kind ≡ number) (λ e. (e ≡ UnknownKind) × IsNoKind number)
 
--- the bytes due to a body, or that there is no such kind
+-- the bytes of a body before its operations or values, and of all of these; or that there is no such kind
+abbrev pub parts_or_none : List ℕ → Result (ℕ × ℕ) BadFile → Type 0
+parts_or_none body r =
+    MatchResult r
+    (λ parts. (parts.0 ≡ fixed_of (kind_in body)) × (parts.1 ≡ each_of (kind_in body) * number_in body) × (0 < parts.0) × (parts.0 ≤ 12) × (parts.1 < 2048))
+    (λ e. (e ≡ UnknownKind) × IsNoKind (kind_in body))
+
+-- the bytes that are due to a body, or that there is no such kind
 abbrev pub size_or_none : List ℕ → Result ℕ BadFile → Type 0
 size_or_none body r = MatchResult r (λ size. (size ≡ size_in body) × (0 < size)) (λ e. (e ≡ UnknownKind) × (size_in body ≡ 0))

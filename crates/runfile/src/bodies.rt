@@ -1,12 +1,12 @@
 // The bodies: the kinds with their sizes, and the size, the check and the event of a body.
 //
-// A new kind is a variant of `Kind`, with its number in `try_from`, its bytes in `fixed`, and an arm in `event_in`; if it has
-// operations or values, it is in `each` too. What it means is in specs/Body.antt, and it is an event of the crate model.
-ghost use Rattle.std.specs.Prelude.{◌≡◌, ◌*◌, ◌<◌, ◌≤◌, pos};
+// A new kind is a variant of `Kind`, with its number in `try_from`, its bytes in `layout`, and an arm in `event_in`.
+// What it means is in specs/Body.antt, and it is an event of the crate model.
+ghost use Rattle.std.specs.Prelude.{◌≡◌, ◌<◌, ◌≤◌, pos};
 ghost use Rattle.model.specs.Events.{event_of};
 ghost use Rattle.model.specs.Limits.{operation_bytes};
-ghost use Rattle.runfile.specs.Body.{fixed_of, each_of, kind_in, number_in, handed_in, event_in, size_at, body_code, event_at, handed_at};
-ghost use Rattle.runfile.specs.Kinds.{number_of, Names, size_or_none};
+ghost use Rattle.runfile.specs.Body.{fixed_of, each_of, kind_in, handed_in, event_in, size_at, body_code, event_at, handed_at};
+ghost use Rattle.runfile.specs.Kinds.{number_of, Names, parts_or_none, size_or_none};
 ghost use Rattle.runfile.specs.File.{code_in};
 
 use crate::fields::{byte_at, bytes_at, first, rest};
@@ -56,48 +56,26 @@ impl TryFrom<u8> for Kind {
 }
 
 impl Kind {
-    // The bytes of a body before its operations or values.
-    #[tactic(auto, unfolding(crate::specs::Body::fixed_of))]
-    fn fixed(self) -> usize
-        ensures by_number { result ≡ fixed_of (number_of self) }
-        ensures bounds { (0 < result) × (result ≤ 12) }
+    // The bytes of a body before its operations or values, and of each of these, 0 of a kind that has none.
+    #[tactic(auto, unfolding(crate::specs::Body::fixed_of, crate::specs::Body::each_of))]
+    fn layout(self) -> (usize, usize)
+        ensures by_number { (result.0 ≡ fixed_of (number_of self)) × (result.1 ≡ each_of (number_of self)) }
+        ensures bounds { (0 < result.0) × (result.0 ≤ 12) × (result.1 ≤ operation_bytes) }
     {
         match self {
-            Kind::Create => 5,
-            Kind::Operate => 7,
-            Kind::SetValue => 12,
-            Kind::Remove => 6,
-            Kind::Signal => 2,
-            Kind::Exit => 2,
-            Kind::Query => 8,
-            Kind::OperateWithin => 11,
-            Kind::Clock => 9,
-            Kind::SetAll => 7,
-            Kind::ReadAll => 6,
-            Kind::ActAs => 10,
+            Kind::Create => (5, 0),
+            Kind::Operate => (7, OPERATION_BYTES),
+            Kind::SetValue => (12, 0),
+            Kind::Remove => (6, 0),
+            Kind::Signal => (2, 0),
+            Kind::Exit => (2, 0),
+            Kind::Query => (8, 0),
+            Kind::OperateWithin => (11, OPERATION_BYTES),
+            Kind::Clock => (9, 0),
+            Kind::SetAll => (7, VALUE_BYTES),
+            Kind::ReadAll => (6, 0),
+            Kind::ActAs => (10, 0),
         }
-    }
-
-    // The bytes of each operation or value, 0 of a kind that has none.
-    #[tactic(auto, unfolding(crate::specs::Body::each_of))]
-    fn each(self) -> usize
-        ensures by_number { result ≡ each_of (number_of self) }
-        ensures few { result ≤ operation_bytes }
-    {
-        match self {
-            Kind::Operate | Kind::OperateWithin => OPERATION_BYTES,
-            Kind::SetAll => VALUE_BYTES,
-            _ => 0,
-        }
-    }
-
-    // The bytes of all operations or values of a body: their number is the byte before the first.
-    fn items(self, body: &[u8]) -> usize
-        requires { number_of self ≡ kind_in body.now }
-        ensures by_number { result ≡ each_of (kind_in body.now) * number_in body.now }
-        ensures few { result < 2048 }
-    {
-        self.each() * (byte_at(body, self.fixed() - 1) as usize)
     }
 }
 
@@ -108,12 +86,20 @@ fn kind_in(body: &[u8]) -> Result<Kind, BadFile>
     Kind::try_from(byte_at(body, 0))
 }
 
-// The bytes that are due to such a body, by its kind and number.
+// The bytes of such a body before its operations or values, and of all of these: their number is the byte before the first.
+fn parts_in(body: &[u8]) -> Result<(usize, usize), BadFile>
+    ensures { parts_or_none body.now result }
+{
+    let (fixed, each) = kind_in(body)?.layout();
+    Ok((fixed, each * (byte_at(body, fixed - 1) as usize)))
+}
+
+// The bytes that are due to such a body.
 fn size_in(body: &[u8]) -> Result<usize, BadFile>
     ensures { size_or_none body.now result }
 {
-    let kind = kind_in(body)?;
-    Ok(kind.fixed() + kind.items(body))
+    let (fixed, items) = parts_in(body)?;
+    Ok(fixed + items)
 }
 
 // The bytes that are due to the body at a position, 0 if there is no such kind.
@@ -226,8 +212,8 @@ pub fn handed_at(file: &[u8], at: usize) -> &[u8]
     ensures { result.now ≡ handed_at file.now at }
 {
     let body = rest(file, at);
-    match kind_in(body) {
-        Ok(kind) => first(rest(body, kind.fixed()), kind.items(body)),
+    match parts_in(body) {
+        Ok((fixed, items)) => first(rest(body, fixed), items),
         Err(_) => first(body, 0),
     }
 }
