@@ -1,11 +1,16 @@
 -- What a turn of `bodies_code` goes by: the table from its k-th entry on.
-use Prim.Native.Nat.{ℕ, zero, suc, ◌+◌, ◌-◌, ◌<◌}
+use Prim.Native.Nat.{ℕ, zero, suc, ◌+◌, ◌*◌, ◌-◌, ◌/◌, ◌<◌, ◌≤◌}
+use native.Mathlib.Nat.{mul-suc}
 use mathlib.Core.Path.{◌≡◌, refl, ap, ◌∙◌}
 use mathlib.Core.Bool.{Bool, true, false, cond}
 use mathlib.Core.List.{List, [], ◌∷◌}
 use native.Mathlib.Omega.{arith}
 use lib.Dec.{eqb}
-use lib.ListN.{length}
+use lib.ListN.{length, take, drop, get_or, length-drop}
+use lib.Seq.{length-take-le, get_or-take}
+use Rattle.std.specs.Simd.{first_chunks}
+use Rattle.std.proofs.lemmas.List.{get_or-drop, drop-drop}
+use Rattle.runfile.specs.Fields.{byte_at, half_at}
 use borrow.Author.Tests.{eq-eqb, ne_eqb}
 use Rattle.std.specs.Prelude.{Result, Ok, Err}
 use Rattle.std.specs.Result.{result_and}
@@ -34,6 +39,39 @@ table_next file n k h =
 table_end_lem : (file : List ℕ) (n : ℕ) → table_from file n n ≡ []
 unfolding entries_from
 table_end_lem file n = let e : n - n ≡ zero = omega arith in rw e
+
+-- ---- the entries as the code has them, in fours of bytes
+
+chunk_at : (m count k : ℕ) (xs : List ℕ) → k < count → get_or (first_chunks m count xs) k [] ≡ take m (drop (m * k) xs)
+chunk_at m zero k xs h = absurd (omega arith)
+chunk_at m (suc count) zero xs h = let e : m * 0 ≡ 0 = omega arith in rw e
+chunk_at m (suc count) (suc k) xs h =
+    let e : m * suc k ≡ m + m * k = omega (arith, mul-suc m k) in
+    rw (e, ← drop-drop (m * k) m xs) (chunk_at m count k (drop m xs) (omega arith))
+
+module _ (file : List ℕ) (n : ℕ) (h : table_end n ≤ length file) where
+  abbrev pub entries_bytes : List ℕ
+  entries_bytes = take (table_end n - head_bytes) (drop head_bytes file)
+
+  length-entries : length entries_bytes ≡ 4 * n
+  length-entries = length-take-le _ (drop head_bytes file) (simp length-drop (omega arith)) ∙ omega arith
+
+  -- there are n of them
+  pub entries_count : length entries_bytes / 4 ≡ n
+  entries_count = omega (arith, length-entries)
+
+  byte_in_entry : (k i : ℕ) → k < n → i < 4 → get_or (get_or (first_chunks 4 n entries_bytes) k []) i 0 ≡ byte_at file (table_end k + i)
+  byte_in_entry k i p q =
+      let e : 2 + (4 * k + i) ≡ table_end k + i = omega arith in
+      rw (chunk_at 4 n k entries_bytes p, get_or-take 4 (drop (4 * k) entries_bytes) i 0 q, get_or-drop (4 * k) entries_bytes i 0, get_or-take (table_end n - head_bytes) (drop head_bytes file) (4 * k + i) 0 (omega arith), get_or-drop head_bytes file (4 * k + i) 0, e)
+
+  -- a half of the k-th
+  pub half_in_entry : {half : ℕ} (entries : List (List ℕ)) (k i at : ℕ) → entries ≡ first_chunks 4 (length entries_bytes / 4) entries_bytes → k < n
+      → i < 3 → at ≡ table_end k + i → half ≡ get_or (get_or entries k []) i 0 + get_or (get_or entries k []) (i + 1) 0 * 256 → half ≡ half_at file at
+  half_in_entry entries k i at is p q e r =
+      let e' : at + 1 ≡ table_end k + (i + 1) = omega arith in
+      let f : entries ≡ first_chunks 4 n entries_bytes = rw entries_count at is in
+      r ∙ rw (f, byte_in_entry k i p (omega arith), byte_in_entry k (i + 1) p (omega arith), e', e) (omega arith)
 
 -- ---- the first code that is not 0
 

@@ -57,11 +57,11 @@ fn check_bodies(file: &[u8], n: usize) -> Result<(), BadFile>
     ensures { code_in result ≡ bad_code (bodies_of file.now n) }
 {
     let mut at = HEAD_BYTES + ENTRY_BYTES * n;
+    let (entries, _) = file[HEAD_BYTES..at].as_chunks::<ENTRY_BYTES>();
     let mut bodies = Ok(());
-    for k in 0..n {
-        let entry = HEAD_BYTES + ENTRY_BYTES * k;
-        let offset = u16::from_le_bytes(bytes_at(file, entry)) as usize;
-        let size = u16::from_le_bytes(bytes_at(file, entry + 2)) as usize;
+    for entry in entries {
+        let offset = u16::from_le_bytes([entry[0], entry[1]]) as usize;
+        let size = u16::from_le_bytes([entry[2], entry[3]]) as usize;
         if offset != at {
             return Err(BadFile::Offsets);
         }

@@ -20,8 +20,7 @@ overflow_mul-result c = record { fits = omega (arith, few-items c) }
 
 pub returns : goal.returns
 returns c =
-    let l = c.layout-fixed.ensures in
-    (
+    let l = c.layout-fixed.ensures in (
       rw (l.by_number.0, c.in_ok-kind_in.ensures),
       rw (l.by_number.1, c.byte_at.ensures, l.by_number.0, c.in_ok-kind_in.ensures),
       l.bounds.0,

@@ -1,4 +1,4 @@
-use Prim.Native.Nat.{◌≤◌, ◌+◌, ◌-◌}
+use Prim.Native.Nat.{◌≤◌, ◌+◌}
 use mathlib.Core.Path.{◌≡◌}
 use lib.ListN.{length}
 use Rattle.runfile.specs.File.{bodies_of, bad_code, code_in}
@@ -7,8 +7,6 @@ use Rattle.runfile.proofs.table.check_bodies.Given as goal
 
 -- `runfile::table::check_bodies` meets its contract. The loop's invariant: the code of all bodies is that of those which are
 -- left, due at `at` and behind the code so far.
-abbrev pub invariant-loop-k : goal.invariant-loop-k
-invariant-loop-k l = (l.k ≤ l.n) × (l.at ≤ length l.file + 131070) × (bad_code (bodies_of l.file l.n) ≡ code_from l.file (code_in l.bodies) l.at (table_from l.file l.n l.k))
-
-abbrev pub decreases-loop-k : goal.decreases-loop-k
-decreases-loop-k l = l.n - l.k
+abbrev pub invariant-loop-entry : goal.invariant-loop-entry
+invariant-loop-entry l =
+    (l.at ≤ length l.file + 131070) × (bad_code (bodies_of l.file l.n) ≡ code_from l.file (code_in l.bodies) l.at (table_from l.file l.n l.entry-index))
