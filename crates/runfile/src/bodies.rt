@@ -11,7 +11,7 @@ ghost use Rattle.runfile.specs.File.{code_in};
 
 use crate::fields::{byte_at, bytes_at, first, rest};
 use crate::table::BadFile;
-use model::{Event, OPERATION_BYTES, VALUE_BYTES, Wait};
+use model::{Event, OPERATION_BYTES, VALUE_BYTES};
 
 // What a body is. Those with `Within` in their name have a wait.
 #[derive(Clone, Copy, Debug, PartialEq, Eq)]
