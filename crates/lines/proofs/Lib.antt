@@ -1,5 +1,6 @@
 -- Laws of the definitions; `Lengths` and `Writing` are what a caller goes by.
 pub mod Digits
+pub mod Decimal
 pub mod Signs
 pub mod Writing
 pub mod Wakings

@@ -1,0 +1,26 @@
+-- The text that std has of a number is its digits.
+use Prim.Native.Nat.{ℕ, suc, ◌/◌, ◌%◌, ◌^◌, ◌<◌, ◌≤◌}
+use mathlib.Core.Path.{◌≡◌, sym, ap, ◌∙◌}
+use mathlib.Core.List.{List, [], ◌∷◌, ◌++◌}
+use native.Mathlib.Omega.{arith}
+use lib.IntN.{ℤ, pos, negsuc}
+use mir.Syntax.{w32}
+use mir.Val.{SFits}
+use Rattle.std.specs.Fmt.{decimal, signed_decimal}
+use Rattle.std.proofs.lemmas.Fmt.{decimal_by_steps}
+use Rattle.lines.specs.Text.{digit, digits_of, signed_of}
+use Rattle.lines.proofs.Digits.{digits_one, digits_more}
+
+pub decimal_is : (n : ℕ) → n < 2 ^ 64 → decimal n ≡ digits_of n
+decimal_is n h =
+    decimal_by_steps
+      (λ m ds. ds ≡ digits_of m)
+      (λ m k. sym (digits_one m k))
+      (λ m ds k e. ap (λ (l : List ℕ). l ++ digit (m % 10) ∷ []) e ∙ sym (digits_more m k))
+      n
+      h
+
+pub signed_decimal_is : (z : ℤ) → SFits w32 z → signed_decimal z ≡ signed_of z
+unfolding signed_of
+signed_decimal_is (pos n) h = decimal_is n (omega (arith, h.sfits))
+signed_decimal_is (negsuc n) h = ap (λ (l : List ℕ). 45 ∷ l) (decimal_is (suc n) (omega (arith, h.sfits)))
