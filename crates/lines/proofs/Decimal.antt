@@ -1,5 +1,5 @@
 -- The text that std has of a number is its digits.
-use Prim.Native.Nat.{ℕ, suc, ◌/◌, ◌%◌, ◌^◌, ◌<◌, ◌≤◌}
+use Prim.Native.Nat.{ℕ, suc, ◌%◌, ◌^◌, ◌<◌}
 use mathlib.Core.Path.{◌≡◌, sym, ap, ◌∙◌}
 use mathlib.Core.List.{List, [], ◌∷◌, ◌++◌}
 use native.Mathlib.Omega.{arith}
@@ -14,11 +14,11 @@ use Rattle.lines.proofs.Digits.{digits_one, digits_more}
 pub decimal_is : (n : ℕ) → n < 2 ^ 64 → decimal n ≡ digits_of n
 decimal_is n h =
     decimal_by_steps
-      (λ m ds. ds ≡ digits_of m)
-      (λ m k. sym (digits_one m k))
-      (λ m ds k e. ap (λ (l : List ℕ). l ++ digit (m % 10) ∷ []) e ∙ sym (digits_more m k))
-      n
-      h
+    (λ m ds. ds ≡ digits_of m)
+    (λ m k. sym (digits_one m k))
+    (λ m ds k e. ap (λ (l : List ℕ). l ++ digit (m % 10) ∷ []) e ∙ sym (digits_more m k))
+    n
+    h
 
 pub signed_decimal_is : (z : ℤ) → SFits w32 z → signed_decimal z ≡ signed_of z
 unfolding signed_of

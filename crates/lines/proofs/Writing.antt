@@ -74,20 +74,19 @@ put_length {out} {after} {at} {next} {s} p = ap length p.buffer ∙ length_writt
 
 pub nothing : (out : List ℕ) (at : ℕ) → at ≤ length out → PutIn 0 out at [] out at
 nothing out at h =
-    record { put = record { room = omega arith; place = omega arith; buffer = paste-zero out at [] }; short = omega arith }
+    record {
+      put = record { room = omega arith; place = omega arith; buffer = paste-zero out at [] };
+      short = omega arith;
+      same_length = refl;
+    }
 
--- one more piece, of at most n bytes
-module _ {m : ℕ} (n : ℕ) {out after last : List ℕ} {at next end : ℕ} {s t : List ℕ} where
-  pub also : PutIn m out at s after next → Put after next t last end → length t ≤ n → PutIn (m + n) out at (s ++ t) last end
-  also p q h = record { put = then p.put q; short = rw length-append (omega (arith, p.short)) }
-
--- the room that is left behind a piece
-pub room_left : {m : ℕ} (n : ℕ) {out after : List ℕ} {at next : ℕ} {s : List ℕ} → PutIn m out at s after next → at + (m + n) ≤ length out
-    → next + n ≤ length after
-room_left n p h = omega (arith, put_length p.put, p.put.place, p.short)
+-- one more piece
+module _ {m n : ℕ} {out after last : List ℕ} {at next end : ℕ} {s t : List ℕ} where
+  pub also : PutIn m out at s after next → PutIn n after next t last end → PutIn (m + n) out at (s ++ t) last end
+  also p q = record { put = then p.put q.put; short = rw length-append (omega (arith, p.short, q.short)); same_length = q.same_length ∙ p.same_length }
 
 pub at_most : {m n : ℕ} {out after : List ℕ} {at next : ℕ} {s : List ℕ} → PutIn m out at s after next → m ≤ n → PutIn n out at s after next
-at_most p h = record { put = p.put; short = omega (arith, p.short) }
+at_most p h = record { put = p.put; short = omega (arith, p.short); same_length = p.same_length }
 
 -- ---- whole lines
 

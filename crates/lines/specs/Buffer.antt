@@ -17,6 +17,7 @@ pub record Put (out : List ℕ) (at : ℕ) (text after : List ℕ) (next : ℕ) 
 pub record PutIn (most : ℕ) (out : List ℕ) (at : ℕ) (text after : List ℕ) (next : ℕ) : Type 0 where
   pub put : Put out at text after next
   pub short : length text ≤ most
+  pub same_length : length after ≡ length out
 
 -- an at sign, and a position of three digits
 abbrev pub position_bytes : ℕ

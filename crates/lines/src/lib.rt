@@ -4,16 +4,16 @@
 // line function changes nothing and answers the position it was given; proofs/Lengths.antt has that no line is longer.
 #![tactic(auto)]
 
-mod numbers;
+mod writer;
 
 ghost use Rattle.std.specs.Prelude.{◌≡◌, [], ◌∷◌, ◌+◌, ◌*◌, ◌≤◌, leb, length, take, pos};
 ghost use Rattle.model.specs.Limits.{semaphores, processes};
 ghost use Rattle.wakings.specs.Wakings.{places_in, wakings_in};
 ghost use Rattle.lines.specs.Text.{newline, word_line, head_line, bad_line, position_text, waking_text, wakings_text, opening_text, event_text, query_text, numbers_text, read_text};
-ghost use Rattle.lines.specs.Buffer.{Put, PutIn, put_line, line_bytes, position_bytes, waking_bytes, opening_bytes, number_bytes};
+ghost use Rattle.lines.specs.Buffer.{PutIn, put_line, line_bytes, position_bytes, waking_bytes, opening_bytes, number_bytes};
 
-use crate::numbers::{marked, number, signed};
-use model::{ALL_READ, ONE_READ, Position, Queried, Reading, Told, WAKING_BYTES};
+use crate::writer::Writer;
+use model::{ALL_READ, ONE_READ, PROCESSES, Position, Queried, Reading, Told, WAKING_BYTES};
 
 // The room that a line function asks for: that of a reading, which is the longest. It has an opening, three numbers of 32 bits for
 // each of eight semaphores, and a newline.
@@ -23,52 +23,23 @@ const NUMBER_BYTES: usize = 11;
 
 const LINE_BYTES: usize = OPENING_BYTES + ALL_READ * NUMBER_BYTES + 1;
 
-const BLANK: u8 = 32;
-
-const EQUALS: u8 = 61;
-
-const AT_SIGN: u8 = 64;
-
-const NEWLINE: u8 = 10;
-
-// Writes a text.
-fn put(out: &mut [u8], at: usize, text: &[u8]) -> usize
-    requires { at + length text.now ≤ length out.old }
-    ensures { Put out.old at text.now out.new result }
-{
-    let end = at + text.len();
-    out[at..end].copy_from_slice(text);
-    end
-}
-
-// Ends a line.
-fn ended(out: &mut [u8], at: usize) -> usize
-    requires { at + 1 ≤ length out.old }
-    ensures { Put out.old at (newline ∷ []) out.new result }
-{
-    out[at] = NEWLINE;
-    at + 1
-}
-
 // Is there room for any line, from a position of a buffer of so many bytes on?
 pub fn has_room(len: usize, at: usize) -> bool
     ensures { result ≡ leb (at + line_bytes) len }
 {
-    if len < LINE_BYTES {
-        return false;
-    }
-    at <= len - LINE_BYTES
+    LINE_BYTES <= len && at <= len - LINE_BYTES
 }
 
 // A word and a number.
-fn worded(out: &mut [u8], at: usize, word: &[u8], n: usize) -> usize
-    requires line_bytes_in_bounds { at + line_bytes ≤ length out.old }
-    requires word_len_bound { length word.now ≤ 8 }
-    ensures { PutIn line_bytes out.old at (word_line word.now n) out.new result }
+fn worded(line: &mut Writer<'_>, word: &[u8], n: usize)
+    requires room { line.old.at + line_bytes ≤ length line.old.out.now }
+    requires short { length word.now ≤ 8 }
+    ensures same_reference { line.new.out.ghost_name ≡ line.old.out.ghost_name }
+    ensures wrote { PutIn line_bytes line.old.out.now line.old.at (word_line word.now n) line.new.out.now line.new.at }
 {
-    let a = put(out, at, word);
-    let b = marked(out, a, BLANK, n);
-    ended(out, b)
+    line.text(word);
+    line.marked(b' ', n);
+    line.byte(b'\n');
 }
 
 // A word and a number, where there is room for any line.
@@ -80,7 +51,9 @@ fn word_line(out: &mut [u8], at: usize, word: &[u8], n: usize) -> usize
     if !has_room(out.len(), at) {
         return at;
     }
-    worded(out, at, word, n)
+    let mut line = Writer { out, at };
+    worded(&mut line, word, n);
+    line.at
 }
 
 // The line before those of the events.
@@ -96,74 +69,70 @@ pub fn bad_line(out: &mut [u8], at: usize, code: u16) -> usize
     ensures out_after { (result, out.new) ≡ put_line out.old at (bad_line code) }
     ensures upper_bound { result ≤ at + line_bytes }
 {
-    word_line(out, at, b"bad", code as usize)
+    word_line(out, at, b"bad", usize::from(code))
 }
 
 // What the line of any event begins with.
-fn opening(out: &mut [u8], at: usize, position: usize, code: i32) -> usize
-    requires { at + opening_bytes ≤ length out.old }
-    ensures { PutIn opening_bytes out.old at (opening_text position code) out.new result }
+fn opening(line: &mut Writer<'_>, position: usize, code: i32)
+    requires { line.old.at + opening_bytes ≤ length line.old.out.now }
+    ensures same_reference { line.new.out.ghost_name ≡ line.old.out.ghost_name }
+    ensures wrote { PutIn opening_bytes line.old.out.now line.old.at (opening_text position code) line.new.out.now line.new.at }
 {
-    let next = number(out, at, position);
-    signed(out, next, BLANK, code)
+    line.number(position);
+    line.marked(b' ', code);
 }
 
 // Writes which operation decided, behind its code; nothing where none did.
-fn decided(out: &mut [u8], at: usize, position: Position) -> usize
-    requires { at + position_bytes ≤ length out.old }
-    ensures { PutIn position_bytes out.old at (position_text position) out.new result }
+fn decided(line: &mut Writer<'_>, position: Position)
+    requires { line.old.at + position_bytes ≤ length line.old.out.now }
+    ensures same_reference { line.new.out.ghost_name ≡ line.old.out.ghost_name }
+    ensures wrote { PutIn position_bytes line.old.out.now line.old.at (position_text position) line.new.out.now line.new.at }
 {
     match position {
-        None => at,
-        Some(number) => marked(out, at, AT_SIGN, number as usize),
+        None => {}
+        Some(number) => line.marked(b'@', number),
     }
 }
 
 // Writes a waking as process=code, with the operation that decided, behind a blank.
-fn woke(out: &mut [u8], at: usize, process: u8, code: u8, position: Position) -> usize
-    requires { at + waking_bytes ≤ length out.old }
-    ensures { PutIn waking_bytes out.old at (waking_text process (pos code) position) out.new result }
+fn woke(line: &mut Writer<'_>, process: u8, code: u8, position: Position)
+    requires { line.old.at + waking_bytes ≤ length line.old.out.now }
+    ensures same_reference { line.new.out.ghost_name ≡ line.old.out.ghost_name }
+    ensures wrote { PutIn waking_bytes line.old.out.now line.old.at (waking_text process (pos code) position) line.new.out.now line.new.at }
 {
-    let a = marked(out, at, BLANK, process as usize);
-    let b = marked(out, a, EQUALS, code as usize);
-    decided(out, b, position)
+    line.marked(b' ', process);
+    line.marked(b'=', code);
+    decided(line, position);
 }
 
 // Writes the first `count` wakings of a list, and no more than there are.
-fn all_woken(out: &mut [u8], at: usize, count: usize, list: &[u8; WAKING_BYTES]) -> usize
-    requires { at + processes * waking_bytes ≤ length out.old }
-    ensures { PutIn (processes * waking_bytes) out.old at (wakings_text (wakings_in count (places_in list.now))) out.new result }
+fn all_woken(line: &mut Writer<'_>, count: usize, list: &[u8; WAKING_BYTES])
+    requires { line.old.at + processes * waking_bytes ≤ length line.old.out.now }
+    ensures same_reference { line.new.out.ghost_name ≡ line.old.out.ghost_name }
+    ensures wrote { PutIn (processes * waking_bytes) line.old.out.now line.old.at (wakings_text (wakings_in count (places_in list.now))) line.new.out.now line.new.at }
 {
-    let most = if count < model::PROCESSES {
-        count
-    } else {
-        model::PROCESSES
-    };
-    let mut next = at;
-    for k in 0..most {
-        next = woke(
-            out,
-            next,
+    for k in 0..count.min(PROCESSES) {
+        woke(
+            line,
             wakings::process_of(list, k),
             wakings::code_of(list, k),
             wakings::position_of(list, k),
         );
     }
-    next
 }
 
 // The numbers that an event told, and its wakings.
-fn all_told(out: &mut [u8], at: usize, position: usize, t: Told, list: &[u8; WAKING_BYTES]) -> usize
-    requires { at + line_bytes ≤ length out.old }
-    ensures { PutIn line_bytes out.old at (event_text position t.code t.position t.value t.looks (wakings_in t.woken (places_in list.now))) out.new result }
+fn all_told(line: &mut Writer<'_>, position: usize, told: Told, list: &[u8; WAKING_BYTES])
+    requires { line.old.at + line_bytes ≤ length line.old.out.now }
+    ensures same_reference { line.new.out.ghost_name ≡ line.old.out.ghost_name }
+    ensures wrote { PutIn line_bytes line.old.out.now line.old.at (event_text position told.code told.position told.value told.looks (wakings_in told.woken (places_in list.now))) line.new.out.now line.new.at }
 {
-    let a = opening(out, at, position, t.code);
-    let decider = t.position;
-    let b = decided(out, a, decider);
-    let c = marked(out, b, BLANK, t.value as usize);
-    let d = marked(out, c, BLANK, t.looks);
-    let e = all_woken(out, d, t.woken, list);
-    ended(out, e)
+    opening(line, position, told.code);
+    decided(line, told.position);
+    line.marked(b' ', told.value);
+    line.marked(b' ', told.looks);
+    all_woken(line, told.woken, list);
+    line.byte(b'\n');
 }
 
 // The line of any event but a query and a reading: what it told, and the wakings in the list that it was lent.
@@ -180,29 +149,23 @@ pub fn told_line(
     if !has_room(out.len(), at) {
         return at;
     }
-    all_told(out, at, position, told, wakings)
+    let mut line = Writer { out, at };
+    all_told(&mut line, position, told, wakings);
+    line.at
 }
 
 // The numbers of a query's line.
-fn queried(
-    out: &mut [u8],
-    at: usize,
-    position: usize,
-    code: i32,
-    value: u16,
-    last: u8,
-    increase: u32,
-    zero: u32,
-) -> usize
-    requires { at + line_bytes ≤ length out.old }
-    ensures { PutIn line_bytes out.old at (query_text position code value last increase zero) out.new result }
+fn queried(line: &mut Writer<'_>, position: usize, q: Queried)
+    requires { line.old.at + line_bytes ≤ length line.old.out.now }
+    ensures same_reference { line.new.out.ghost_name ≡ line.old.out.ghost_name }
+    ensures wrote { PutIn line_bytes line.old.out.now line.old.at (query_text position q.code q.value q.last q.increase q.zero) line.new.out.now line.new.at }
 {
-    let a = opening(out, at, position, code);
-    let b = marked(out, a, BLANK, value as usize);
-    let c = marked(out, b, BLANK, last as usize);
-    let d = marked(out, c, BLANK, increase as usize);
-    let e = marked(out, d, BLANK, zero as usize);
-    ended(out, e)
+    opening(line, position, q.code);
+    line.marked(b' ', q.value);
+    line.marked(b' ', q.last);
+    line.marked(b' ', q.increase);
+    line.marked(b' ', q.zero);
+    line.byte(b'\n');
 }
 
 // The line of a query.
@@ -213,40 +176,31 @@ pub fn query_line(out: &mut [u8], at: usize, position: usize, q: Queried) -> usi
     if !has_room(out.len(), at) {
         return at;
     }
-    queried(
-        out, at, position, q.code, q.value, q.last, q.increase, q.zero,
-    )
+    let mut line = Writer { out, at };
+    queried(&mut line, position, q);
+    line.at
 }
 
 // Writes the first `count` numbers, and no more than there are, a blank before each.
-fn all_numbers(out: &mut [u8], at: usize, count: usize, numbers: &[u32; ALL_READ]) -> usize
-    requires { at + 3 * semaphores * number_bytes ≤ length out.old }
-    ensures { PutIn (3 * semaphores * number_bytes) out.old at (numbers_text (take count numbers.now)) out.new result }
+fn all_numbers(line: &mut Writer<'_>, count: usize, numbers: &[u32; ALL_READ])
+    requires { line.old.at + 3 * semaphores * number_bytes ≤ length line.old.out.now }
+    ensures same_reference { line.new.out.ghost_name ≡ line.old.out.ghost_name }
+    ensures wrote { PutIn (3 * semaphores * number_bytes) line.old.out.now line.old.at (numbers_text (take count numbers.now)) line.new.out.now line.new.at }
 {
-    let all: &[u32] = numbers;
-    let most = if count < ALL_READ { count } else { ALL_READ };
-    let mut next = at;
-    for k in 0..most {
-        next = marked(out, next, BLANK, all[k] as usize);
+    for n in &numbers[..count.min(ALL_READ)] {
+        line.marked(b' ', *n);
     }
-    next
 }
 
 // The numbers of a reading's line.
-fn all_read(
-    out: &mut [u8],
-    at: usize,
-    position: usize,
-    code: i32,
-    count: u8,
-    numbers: &[u32; ALL_READ],
-) -> usize
-    requires { at + line_bytes ≤ length out.old }
-    ensures { PutIn line_bytes out.old at (read_text position code (take (3 * count) numbers.now)) out.new result }
+fn all_read(line: &mut Writer<'_>, position: usize, reading: Reading, numbers: &[u32; ALL_READ])
+    requires { line.old.at + line_bytes ≤ length line.old.out.now }
+    ensures same_reference { line.new.out.ghost_name ≡ line.old.out.ghost_name }
+    ensures wrote { PutIn line_bytes line.old.out.now line.old.at (read_text position reading.code (take (3 * reading.count) numbers.now)) line.new.out.now line.new.at }
 {
-    let a = opening(out, at, position, code);
-    let b = all_numbers(out, a, ONE_READ * (count as usize), numbers);
-    ended(out, b)
+    opening(line, position, reading.code);
+    all_numbers(line, ONE_READ * usize::from(reading.count), numbers);
+    line.byte(b'\n');
 }
 
 // The line of a reading: its code, and three numbers for each semaphore that it shows, from what it was lent for them.
@@ -263,5 +217,7 @@ pub fn read_line(
     if !has_room(out.len(), at) {
         return at;
     }
-    all_read(out, at, position, reading.code, reading.count, numbers)
+    let mut line = Writer { out, at };
+    all_read(&mut line, position, reading, numbers);
+    line.at
 }

@@ -1,24 +1,28 @@
-use Prim.Native.Nat.{◌+◌, ◌*◌}
-use mathlib.Core.Path.{◌≡◌}
+use Prim.Native.Nat.{◌+◌, ◌*◌, ◌^◌, ◌<◌}
+use mathlib.Core.Path.{◌≡◌, refl, ◌∙◌}
 use native.Mathlib.Omega.{arith}
-use mir.Syntax.{w32}
+use lib.ListN.{get_or}
+use lib.Seq.{length-take-le}
+use Rattle.std.proofs.lemmas.List.{get_or-take}
 use Rattle.lines.specs.Text.{numbers_text}
 use Rattle.lines.specs.Buffer.{number_bytes}
-use Rattle.lines.proofs.Digits.{digits_fit}
-use Rattle.lines.proofs.Writing.{nothing, also, room_left}
+use Rattle.lines.proofs.Decimal.{decimal_is}
+use Rattle.lines.proofs.Writing.{nothing, also}
 use Rattle.lines.proofs.NumberRows.{numbers_more}
 use Rattle.lines.proofs.all_numbers.Goals as goal
 
-pub loop-k-init : goal.loop-k-init
+pub loop-n-init : goal.loop-n-init
 unfolding numbers_text
-loop-k-init c = let a = c.args in (omega arith, nothing a.out.now a.at (omega arith))
+loop-n-init c = let w = c.args.line.now in (refl, nothing w.out.now w.at (omega arith))
 
-pub marked-next-requires : goal.marked-next-requires
-marked-next-requires c = omega (arith, room_left number_bytes c.loop-k.invariant.1 (omega arith), digits_fit w32 9 tt (c.type_inv.all c.loop-k.k))
-
-pub loop-k-preserved : goal.loop-k-preserved
-loop-k-preserved c =
-    let l = c.loop-k in
+pub loop-n-preserved : goal.loop-n-preserved
+loop-n-preserved c =
+    let l = c.loop-n in
     let ns = c.args.numbers.now in
-    let e : number_bytes * (l.k + 1) ≡ number_bytes * l.k + number_bytes = omega arith in
-    (omega arith, rw (e, numbers_more ns l.k (omega arith)) (also number_bytes l.invariant.1 c.marked-next.ensures (omega (arith, digits_fit w32 9 tt (c.type_inv.all l.k)))))
+    let here : l.n-index < c.min.result = omega (arith, length-take-le c.min.result ns (omega arith)) in
+    let number = get_or ns l.n-index 0 in
+    let small : number < 2 ^ 64 = omega (arith, c.fits-numbers l.n-index) in
+    let more : number_bytes * (l.n-index + 1) ≡ number_bytes * l.n-index + number_bytes = omega arith in (
+      c.marked.ensures.same_reference ∙ l.invariant.0,
+      rw (more, numbers_more ns l.n-index (omega arith)) (also l.invariant.1 (rw (get_or-take c.min.result ns l.n-index 0 here, decimal_is number small) at c.marked.ensures.wrote)),
+    )

@@ -1,15 +1,16 @@
-use Prim.Native.Nat.{◌*◌}
 use native.Mathlib.Omega.{arith}
+use mir.Syntax.{w32}
+use mir.Val.{SFits}
 use mir.Facts.{to_z-of_z}
-use Rattle.model.specs.Limits.{semaphores}
+use borrow.Author.Rules.{rules}
 use Rattle.lines.specs.Text.{read_text}
-use Rattle.lines.specs.Buffer.{number_bytes}
-use Rattle.lines.proofs.Writing.{also}
+use Rattle.lines.proofs.Writing.{also, at_most}
 use Rattle.lines.proofs.all_read.Goals as goal
 
 -- `lines::all_read` meets its contract, piece by piece.
-pub returns : goal.returns
+pub returns-clause-wrote : goal.returns-clause-wrote
 unfolding read_text
-returns c =
-    let n = also (3 * semaphores * number_bytes) (rw (to_z-of_z c.ranges.code) at c.opening-a.ensures) c.all_numbers-b.ensures.put c.all_numbers-b.ensures.short in
-    also 1 n c.ended.ensures (omega arith)
+returns-clause-wrote c =
+    let code : SFits w32 c.args.reading.code = search rules in
+    let begun = rw (to_z-of_z code) at c.opening.ensures.wrote in
+    at_most (also (also begun (rw c.from.ensures at c.all_numbers.ensures.wrote)) c.byte.ensures.wrote) (omega arith)

@@ -1,7 +1,4 @@
 use mathlib.Core.Path.{sym, ◌∙◌}
-use mir.Syntax.{w32}
-use mir.Val.{SFits}
-use mir.Facts.{to_z-of_z}
 use borrow.Author.Rules.{rules}
 use Rattle.lines.proofs.Writing.{line, no_line_lem}
 use Rattle.lines.proofs.query_line.Goals as goal
@@ -11,5 +8,5 @@ returns-then-not-has_room-clause-out_after c = (no_line_lem c.args.out.now _ c.a
 
 pub returns-clause-out_after : goal.returns-clause-out_after
 returns-clause-out_after c =
-    let f : SFits w32 c.args.q.code = search rules in
-    (line (sym c.has_room.ensures ∙ c.if-not-has_room.false) (rw (to_z-of_z f) at c.queried.ensures)).0
+    let written = line (sym c.has_room.ensures ∙ c.if-not-has_room.false) c.queried.ensures.wrote in
+    search (rules, written.0)

@@ -1,4 +1,5 @@
 use mathlib.Core.Path.{sym, ◌∙◌}
+use borrow.Author.Rules.{rules}
 use Rattle.lines.proofs.Writing.{line, no_line_lem}
 use Rattle.lines.proofs.told_line.Goals as goal
 
@@ -7,4 +8,5 @@ returns-then-not-has_room-clause-out_after c = (no_line_lem c.args.out.now _ c.a
 
 pub returns-clause-out_after : goal.returns-clause-out_after
 returns-clause-out_after c =
-    (line (sym c.has_room.ensures ∙ c.if-not-has_room.false) c.all_told.ensures).0
+    let written = line (sym c.has_room.ensures ∙ c.if-not-has_room.false) c.all_told.ensures.wrote in
+    search (rules, written.0)
