@@ -1,22 +1,14 @@
 -- Texts written one behind the other.
-use Prim.Native.Nat.{ℕ, suc, ◌+◌, ◌-◌, ◌<◌, ◌≤◌}
-use mathlib.Core.Path.{◌≡◌, refl, sym, ap, ◌∙◌}
-use mathlib.Core.Bool.{Bool, true, false, not}
-use mathlib.Core.List.{List, [], ◌∷◌, ◌++◌, append_assoc}
-use native.Mathlib.Nat.{add_assoc, add-zero}
+use Prim.Native.Nat.{ℕ, ◌+◌, ◌≤◌}
+use mathlib.Core.Path.{◌≡◌, refl, ap, ◌∙◌}
+use mathlib.Core.Bool.{Bool, true, false}
+use mathlib.Core.List.{List, [], ◌++◌, append_assoc}
+use native.Mathlib.Nat.{add_assoc}
 use native.Mathlib.Omega.{arith}
-use native.Mathlib.Numerals.{add-one}
-use lib.Dec.{leb}
-use lib.ListN.{length, take, drop, set, length-append, length-drop, length-set}
-use lib.Seq.{paste, paste-zero, length-paste, take-paste, drop-paste, drop-drop, take-length, length-take-le, take-set-le, drop-set-lt, set_split, drop_at, append_snoc}
-use mir.Val.{bool_byte}
-use borrow.Author.Tests.{not-true, not-false, leb-true, leb-false, le-leb, lt-leb}
+use lib.ListN.{length, take, length-append, length-drop}
+use lib.Seq.{paste, paste-zero, length-paste, take-paste, drop-paste, drop-drop, take-length, length-take-le}
+use borrow.Author.Tests.{leb-true}
 use Rattle.lines.specs.Buffer.{written, Put, PutIn, line_bytes, has_room, put_line}
-use Rattle.lines.proofs.Digits.{lead}
-
--- the buffer after a store
-pub written_one : (out : List ℕ) (at b : ℕ) → at < length out → set out at b ≡ written out at (b ∷ [])
-written_one out at b h = rw (add-one, append_snoc) (set_split out at b h)
 
 module _ (out : List ℕ) (at : ℕ) where
   pub length_written : (s : List ℕ) → at + length s ≤ length out → length (written out at s) ≡ length out
@@ -30,20 +22,7 @@ module _ (out : List ℕ) (at : ℕ) where
       rw (take-paste out at s (length s) a n, ← drop-drop (length t) (at + length s) (paste out at s (length s)), drop-paste out at s (length s) a n, drop-drop, take-length (s ++ t))
       (simp (take-length, length-append, add_assoc, append_assoc))
 
-  -- the byte behind a text may be stored first
-  pub written_last : (s : List ℕ) (d : ℕ) → at + length s < length out → written (set out (at + length s) d) at s ≡ written out at (s ++ d ∷ [])
-  written_last s d h =
-      let l : at ≤ at + length s = omega arith in
-      let k : at + length s ≤ length out = omega arith in
-      let e : drop (at + length s) (set out (at + length s) d) ≡ d ∷ drop (suc (at + length s)) out =
-      rw (set_split out (at + length s) d h) (drop_at (take (at + length s) out) (d ∷ drop (suc (at + length s)) out) (at + length s) (length-take-le _ _ k)) in
-      rw (take-set-le at out (at + length s) d l, e, take-length (s ++ d ∷ []))
-      (simp (take-length, length-append, ← add_assoc, add-one, append_assoc))
-
 -- ---- one piece of a line after another
-
-pub put_byte : (out : List ℕ) (at b : ℕ) → at < length out → Put out at (b ∷ []) (set out at b) (at + 1)
-put_byte out at b h = record { room = omega arith; place = refl; buffer = written_one out at b h }
 
 pub then : {out after last : List ℕ} {at next end : ℕ} {s t : List ℕ} → Put out at s after next → Put after next t last end → Put out at (s ++ t) last end
 then {out} {after} {last} {at} {next} {end} {s} {t} p q =
@@ -52,23 +31,6 @@ then {out} {after} {last} {at} {next} {end} {s} {t} p q =
       place = rw length-append (omega (arith, p.place, q.place));
       buffer = q.buffer ∙ rw (p.buffer, p.place) (written_append out at s t p.room);
     }
-
--- a byte that may not be due: where it is not, the text is written over it
-pub due : (t : Bool) (b : ℕ) {out after : List ℕ} {at next : ℕ} {s : List ℕ} → Put (set out at b) (at + bool_byte t) s after next → 1 ≤ length s → at < length out
-    → Put out at (lead t b s) after next
-due true b {out} {at = at} p h l = then (put_byte out at b l) p
-due false b {out} {at = at} {s = s} p h l =
-    let q = rw add-zero at p in
-    let e : at ≤ at = omega arith in
-    let k : at < at + length s = omega arith in
-    record {
-      room = rw (length-set out at b) at q.room;
-      place = q.place;
-      buffer = q.buffer ∙ rw (take-set-le at out at b e, drop-set-lt (at + length s) out at b k);
-    }
-
-pub put_length : {out after : List ℕ} {at next : ℕ} {s : List ℕ} → Put out at s after next → length after ≡ length out
-put_length {out} {after} {at} {next} {s} p = ap length p.buffer ∙ length_written out at s p.room
 
 -- ---- with a bound on their length
 
@@ -90,21 +52,7 @@ at_most p h = record { put = p.put; short = omega (arith, p.short); same_length 
 
 -- ---- whole lines
 
--- room tested without a sum
-pub leb_over : (at len : ℕ) → line_bytes ≤ len → leb at (len - line_bytes) ≡ leb (at + line_bytes) len
-leb_over at len h = by (leb at (len - line_bytes)) refl
-  where
-    by : (t : Bool) → leb at (len - line_bytes) ≡ t → t ≡ leb (at + line_bytes) len
-    by true e = sym (le-leb (at + line_bytes) len (omega (arith, leb-true at (len - line_bytes) e)))
-    by false e = sym (lt-leb (at + line_bytes) len (omega (arith, leb-false at (len - line_bytes) e)))
-
 -- what the test tells
-pub room_yes : (out : List ℕ) (at : ℕ) (r : Bool) → r ≡ has_room out at → not r ≡ false → has_room out at ≡ true
-room_yes out at r e h = sym e ∙ not-false r h
-
-pub room_no : (out : List ℕ) (at : ℕ) (r : Bool) → r ≡ has_room out at → not r ≡ true → has_room out at ≡ false
-room_no out at r e h = sym e ∙ not-true r h
-
 pub roomy : (out : List ℕ) (at : ℕ) → has_room out at ≡ true → at + line_bytes ≤ length out
 roomy out at h = leb-true (at + line_bytes) (length out) h
 
