@@ -9,6 +9,7 @@ use mir.Val.{SFits}
 use Rattle.std.specs.Fmt.{decimal, signed_decimal}
 use Rattle.std.proofs.lemmas.Fmt.{decimal_by_steps}
 use Rattle.lines.specs.Text.{digit, digits_of, signed_of}
+use Rattle.lines.specs.Buffer.{PutIn}
 use Rattle.lines.proofs.Digits.{digits_one, digits_more}
 
 pub decimal_is : (n : ℕ) → n < 2 ^ 64 → decimal n ≡ digits_of n
@@ -24,3 +25,16 @@ pub signed_decimal_is : (z : ℤ) → SFits w32 z → signed_decimal z ≡ signe
 unfolding signed_of
 signed_decimal_is (pos n) h = decimal_is n (omega (arith, h.sfits))
 signed_decimal_is (negsuc n) h = ap (λ (l : List ℕ). 45 ∷ l) (decimal_is (suc n) (omega (arith, h.sfits)))
+
+-- a number that was written, as its digits: alone, and behind a byte
+module _ {most n at next : ℕ} {out after : List ℕ} where
+  pub in_digits : PutIn most out at (decimal n) after next → n < 2 ^ 64 → PutIn most out at (digits_of n) after next
+  in_digits p h = rw (decimal_is n h) at p
+
+  pub marked_digits : {mark : ℕ} → PutIn most out at (mark ∷ decimal n) after next → n < 2 ^ 64 → PutIn most out at (mark ∷ digits_of n) after next
+  marked_digits p h = rw (decimal_is n h) at p
+
+-- .. and a code
+pub marked_code : {most mark at next : ℕ} {out after : List ℕ} {z : ℤ} → PutIn most out at (mark ∷ signed_decimal z) after next → SFits w32 z
+    → PutIn most out at (mark ∷ signed_of z) after next
+marked_code {z = z} p h = rw (signed_decimal_is z h) at p

@@ -6,7 +6,7 @@ use lib.Seq.{length-take-le}
 use Rattle.std.proofs.lemmas.List.{get_or-take}
 use Rattle.lines.specs.Text.{numbers_text}
 use Rattle.lines.specs.Buffer.{number_bytes}
-use Rattle.lines.proofs.Decimal.{decimal_is}
+use Rattle.lines.proofs.Decimal.{marked_digits}
 use Rattle.lines.proofs.Writing.{nothing, also}
 use Rattle.lines.proofs.NumberRows.{numbers_more}
 use Rattle.lines.proofs.all_numbers.Goals as goal
@@ -20,9 +20,9 @@ loop-n-preserved c =
     let l = c.loop-n in
     let ns = c.args.numbers.now in
     let here : l.n-index < c.min.result = omega (arith, length-take-le c.min.result ns (omega arith)) in
-    let number = get_or ns l.n-index 0 in
-    let small : number < 2 ^ 64 = omega (arith, c.fits-numbers l.n-index) in
+    let number = rw (get_or-take c.min.result ns l.n-index 0 here) at c.marked.ensures.wrote in
+    let small : get_or ns l.n-index 0 < 2 ^ 64 = omega (arith, c.fits-numbers l.n-index) in
     let more : number_bytes * (l.n-index + 1) ≡ number_bytes * l.n-index + number_bytes = omega arith in (
       c.marked.ensures.same_reference ∙ l.invariant.0,
-      rw (more, numbers_more ns l.n-index (omega arith)) (also l.invariant.1 (rw (get_or-take c.min.result ns l.n-index 0 here, decimal_is number small) at c.marked.ensures.wrote)),
+      rw (more, numbers_more ns l.n-index (omega arith)) (also l.invariant.1 (marked_digits number small)),
     )

@@ -3,7 +3,7 @@ use mir.Syntax.{w8}
 use mir.Val.{Fits}
 use borrow.Author.Rules.{rules}
 use Rattle.lines.specs.Text.{position_text}
-use Rattle.lines.proofs.Decimal.{decimal_is}
+use Rattle.lines.proofs.Decimal.{marked_digits}
 use Rattle.lines.proofs.Writing.{nothing, at_most}
 use Rattle.lines.proofs.decided.Goals as goal
 
@@ -17,4 +17,4 @@ pub returns-in-Some-clause-wrote : goal.returns-in-Some-clause-wrote
 unfolding position_text
 returns-in-Some-clause-wrote c =
     let n : Fits w8 c.in-Some.number = search rules in
-    rw (c.in-Some.is, ← decimal_is c.in-Some.number (omega (arith, n.fits))) c.marked.ensures.wrote
+    rw c.in-Some.is (marked_digits c.marked.ensures.wrote (omega (arith, n.fits)))

@@ -4,7 +4,7 @@ use mir.Val.{SFits, Fits}
 use mir.Facts.{to_z-of_z}
 use borrow.Author.Rules.{rules}
 use Rattle.lines.specs.Text.{query_text}
-use Rattle.lines.proofs.Decimal.{decimal_is}
+use Rattle.lines.proofs.Decimal.{marked_digits}
 use Rattle.lines.proofs.Writing.{also, at_most}
 use Rattle.lines.proofs.queried.Goals as goal
 
@@ -18,8 +18,8 @@ returns-clause-wrote c =
     let last : Fits w8 q.last = search rules in
     let increase : Fits w32 q.increase = search rules in
     let zero : Fits w32 q.zero = search rules in
-    let valued = also (rw (to_z-of_z code) at c.opening.ensures.wrote) (rw (decimal_is q.value (omega (arith, value.fits))) at c.marked.ensures.wrote) in
-    let lasted = also valued (rw (decimal_is q.last (omega (arith, last.fits))) at c.marked-2.ensures.wrote) in
-    let increased = also lasted (rw (decimal_is q.increase (omega (arith, increase.fits))) at c.marked-3.ensures.wrote) in
-    let zeroed = also increased (rw (decimal_is q.zero (omega (arith, zero.fits))) at c.marked-4.ensures.wrote) in
+    let valued = also (rw (to_z-of_z code) at c.opening.ensures.wrote) (marked_digits c.marked.ensures.wrote (omega (arith, value.fits))) in
+    let lasted = also valued (marked_digits c.marked-2.ensures.wrote (omega (arith, last.fits))) in
+    let increased = also lasted (marked_digits c.marked-3.ensures.wrote (omega (arith, increase.fits))) in
+    let zeroed = also increased (marked_digits c.marked-4.ensures.wrote (omega (arith, zero.fits))) in
     at_most (also zeroed c.byte.ensures.wrote) (omega arith)

@@ -1,6 +1,6 @@
 use native.Mathlib.Omega.{arith}
 use Rattle.lines.specs.Text.{signed_of, waking_text}
-use Rattle.lines.proofs.Decimal.{decimal_is}
+use Rattle.lines.proofs.Decimal.{marked_digits}
 use Rattle.lines.proofs.Writing.{also, at_most}
 use Rattle.lines.proofs.woke.Goals as goal
 
@@ -8,6 +8,6 @@ use Rattle.lines.proofs.woke.Goals as goal
 pub returns-clause-wrote : goal.returns-clause-wrote
 unfolding waking_text signed_of
 returns-clause-wrote c =
-    let process = rw (decimal_is c.args.process (omega arith)) at c.marked.ensures.wrote in
-    let code = rw (decimal_is c.args.code (omega arith)) at c.marked-2.ensures.wrote in
+    let process = marked_digits c.marked.ensures.wrote (omega arith) in
+    let code = marked_digits c.marked-2.ensures.wrote (omega arith) in
     at_most (also (also process code) c.decided.ensures.wrote) (omega arith)

@@ -1,6 +1,6 @@
 use native.Mathlib.Omega.{arith}
 use Rattle.lines.specs.Text.{word_line}
-use Rattle.lines.proofs.Decimal.{decimal_is}
+use Rattle.lines.proofs.Decimal.{marked_digits}
 use Rattle.lines.proofs.Writing.{also, at_most}
 use Rattle.lines.proofs.worded.Goals as goal
 
@@ -8,5 +8,5 @@ use Rattle.lines.proofs.worded.Goals as goal
 pub returns-clause-wrote : goal.returns-clause-wrote
 unfolding word_line
 returns-clause-wrote c =
-    let number = rw (decimal_is c.args.n (omega arith)) at c.marked.ensures.wrote in
+    let number = marked_digits c.marked.ensures.wrote (omega arith) in
     at_most (also (also c.text.ensures.wrote number) c.byte.ensures.wrote) (omega arith)
