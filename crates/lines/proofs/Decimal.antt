@@ -5,7 +5,8 @@ use mathlib.Core.List.{List, [], ◌∷◌, ◌++◌}
 use native.Mathlib.Omega.{arith}
 use lib.IntN.{ℤ, pos, negsuc}
 use mir.Syntax.{w32}
-use mir.Val.{SFits}
+use mir.Val.{SFits, to_z, of_z}
+use mir.Facts.{to_z-of_z}
 use Rattle.std.specs.Fmt.{decimal, signed_decimal}
 use Rattle.std.proofs.lemmas.Fmt.{decimal_by_steps}
 use Rattle.lines.specs.Text.{digit, digits_of, signed_of}
@@ -35,6 +36,6 @@ module _ {most n at next : ℕ} {out after : List ℕ} where
   marked_digits p h = rw (decimal_is n h) at p
 
 -- .. and a code
-pub marked_code : {most mark at next : ℕ} {out after : List ℕ} {z : ℤ} → PutIn most out at (mark ∷ signed_decimal z) after next → SFits w32 z
+pub marked_code : {most mark at next : ℕ} {out after : List ℕ} {z : ℤ} → PutIn most out at (mark ∷ signed_decimal (to_z w32 (of_z w32 z))) after next → SFits w32 z
     → PutIn most out at (mark ∷ signed_of z) after next
-marked_code {z = z} p h = rw (signed_decimal_is z h) at p
+marked_code {z = z} p h = rw (to_z-of_z h, signed_decimal_is z h) at p

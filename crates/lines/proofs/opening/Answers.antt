@@ -1,5 +1,4 @@
 use native.Mathlib.Omega.{arith}
-use mir.Facts.{to_z-of_z}
 use Rattle.lines.proofs.Decimal.{in_digits, marked_code}
 use Rattle.lines.proofs.Writing.{also}
 use Rattle.lines.proofs.opening.Goals as goal
@@ -7,5 +6,4 @@ use Rattle.lines.proofs.opening.Goals as goal
 -- `lines::opening` meets its contract, piece by piece.
 pub returns-clause-wrote : goal.returns-clause-wrote
 returns-clause-wrote c =
-    let code = rw (to_z-of_z c.ranges.code) at c.marked.ensures.wrote in
-    also (in_digits c.number.ensures.wrote (omega arith)) (marked_code code c.ranges.code)
+    also (in_digits c.number.ensures.wrote (omega arith)) (marked_code c.marked.ensures.wrote c.ranges.code)
