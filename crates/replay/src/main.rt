@@ -1,34 +1,19 @@
 // Replays a run file from standard input with the quick engine, and writes its lines on standard output.
 #![tactic(auto)]
 
-ghost use Rattle.std.specs.Prelude.{◌≡◌};
 ghost use Rattle.model.specs.declared.Engine.TheVariants.{Quick};
-ghost use Rattle.host.specs.Holding.{host_in};
-ghost use Rattle.replaying.specs.Replay.{stage_in, last_stage};
+ghost use Rattle.console.specs.Replayed.{Replayed};
 
-use host::HOST_BYTES;
-use model::{ALL_ADJUSTMENTS, Engine};
+use model::Engine;
 use replaying::Progress;
 
-// The file descriptor of standard input.
-const STANDARD_INPUT: i32 = 0;
-
-// Replays a file with the quick engine: what the program is named for.
-fn quick(
-    host: &mut [u8; HOST_BYTES],
-    adjustments: &mut [i16; ALL_ADJUSTMENTS],
-    file: &[u8],
-) -> Progress
-    ensures { stage_in (host_in host.new adjustments.new) result ≡ last_stage Quick file.now }
+// Replays with the quick engine: what the program is named for.
+fn quick() -> Progress
+    ensures { Replayed Quick result }
 {
-    console::print(host, adjustments, Engine::Quick, file)
+    console::replay(Engine::Quick)
 }
 
-// At most one byte more than the longest file is read: by it a longer one is noticed.
 fn main() {
-    let mut space = io::large_buffer();
-    let read = io::read_full(STANDARD_INPUT, &mut space);
-    let mut host = host::fresh();
-    let mut adjustments = host::no_adjustments();
-    quick(&mut host, &mut adjustments, &space[..read]);
+    quick();
 }

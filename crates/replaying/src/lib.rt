@@ -83,17 +83,11 @@ pub fn piece(
 {
     let mut wakings = [0u8; WAKING_BYTES];
     let mut numbers = [0u32; ALL_READ];
-    let mut position = p.position;
-    let mut left = p.left;
-    let mut at = p.at;
-    let mut next = 0;
-    while 0 < left {
-        if !has_room(out.len(), next) {
-            break;
-        }
-        let handed = runfile::handed_at(file, at);
-        let size = runfile::size_at(file, at);
-        let event = runfile::event_at(file, at);
+    let mut progress = Progress { written: 0, ..p };
+    while 0 < progress.left && has_room(out.len(), progress.written) {
+        let handed = runfile::handed_at(file, progress.at);
+        let size = runfile::size_at(file, progress.at);
+        let event = runfile::event_at(file, progress.at);
         let reply = run(
             &mut *host,
             &mut *adjustments,
@@ -103,15 +97,17 @@ pub fn piece(
             event,
             handed,
         );
-        next = reply_line(out, next, position, reply, &wakings, &numbers);
-        at += size;
-        position += 1;
-        left -= 1;
+        progress.written = reply_line(
+            out,
+            progress.written,
+            progress.position,
+            reply,
+            &wakings,
+            &numbers,
+        );
+        progress.at += size;
+        progress.position += 1;
+        progress.left -= 1;
     }
-    Progress {
-        position: position,
-        left: left,
-        at: at,
-        written: next,
-    }
+    progress
 }

@@ -1,12 +1,12 @@
 use Rattle.host.specs.Holding.{host_in}
-use Rattle.replaying.proofs.Turns.{stage}
+use Rattle.replaying.specs.Replay.{stage_in}
 use Rattle.replaying.proofs.Going.{Going}
 use Rattle.replaying.proofs.piece.Given as goal
 
 -- `replaying::piece` meets its contract. The loop's invariant: what the definition gives from here is what it gives from the
 -- start.
-abbrev pub invariant-loop-left : goal.invariant-loop-left
-invariant-loop-left l = Going l.engine l.file (stage (host_in l.initial.host l.initial.adjustments) l.initial.position l.initial.left l.initial.at) l.initial.out (stage (host_in l.host l.adjustments) l.position l.left l.at) l.out l.next
+abbrev pub invariant-loop-progress : goal.invariant-loop-progress
+invariant-loop-progress l = Going l.engine l.file (stage_in (host_in l.initial.host l.initial.adjustments) l.initial.progress) l.initial.out (stage_in (host_in l.host l.adjustments) l.progress) l.out l.progress.written
 
-abbrev pub decreases-loop-left : goal.decreases-loop-left
-decreases-loop-left l = l.left
+abbrev pub decreases-loop-progress : goal.decreases-loop-progress
+decreases-loop-progress l = l.progress.left

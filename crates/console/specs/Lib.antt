@@ -1,0 +1,2 @@
+-- What a replay of standard input comes to.
+pub mod Replayed
