@@ -10,7 +10,8 @@ use mir.Facts.{to_z-of_z}
 use Rattle.std.specs.Fmt.{decimal, signed_decimal}
 use Rattle.std.proofs.lemmas.Fmt.{decimal_by_steps}
 use Rattle.lines.specs.Text.{digit, digits_of, signed_of}
-use Rattle.lines.specs.Buffer.{PutIn}
+use Rattle.lines.specs.declared.writer.Writer.{Writer}
+use Rattle.lines.specs.Buffer.{Wrote}
 use Rattle.lines.proofs.Digits.{digits_one, digits_more}
 
 pub decimal_is : (n : ℕ) → n < 2 ^ 64 → decimal n ≡ digits_of n
@@ -28,14 +29,14 @@ signed_decimal_is (pos n) h = decimal_is n (omega (arith, h.sfits))
 signed_decimal_is (negsuc n) h = ap (λ (l : List ℕ). 45 ∷ l) (decimal_is (suc n) (omega (arith, h.sfits)))
 
 -- a number that was written, as its digits: alone, and behind a byte
-module _ {most n at next : ℕ} {out after : List ℕ} where
-  pub in_digits : PutIn most out at (decimal n) after next → n < 2 ^ 64 → PutIn most out at (digits_of n) after next
+module _ {most n : ℕ} {before after : Writer} where
+  pub in_digits : Wrote most before (decimal n) after → n < 2 ^ 64 → Wrote most before (digits_of n) after
   in_digits p h = rw (decimal_is n h) at p
 
-  pub marked_digits : {mark : ℕ} → PutIn most out at (mark ∷ decimal n) after next → n < 2 ^ 64 → PutIn most out at (mark ∷ digits_of n) after next
+  pub marked_digits : {mark : ℕ} → Wrote most before (mark ∷ decimal n) after → n < 2 ^ 64 → Wrote most before (mark ∷ digits_of n) after
   marked_digits p h = rw (decimal_is n h) at p
 
 -- .. and a code
-pub marked_code : {most mark at next : ℕ} {out after : List ℕ} {z : ℤ} → PutIn most out at (mark ∷ signed_decimal (to_z w32 (of_z w32 z))) after next → SFits w32 z
-    → PutIn most out at (mark ∷ signed_of z) after next
+pub marked_code : {most mark : ℕ} {before after : Writer} {z : ℤ} → Wrote most before (mark ∷ signed_decimal (to_z w32 (of_z w32 z))) after → SFits w32 z
+    → Wrote most before (mark ∷ signed_of z) after
 marked_code {z = z} p h = rw (to_z-of_z h, signed_decimal_is z h) at p

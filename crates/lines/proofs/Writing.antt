@@ -8,7 +8,8 @@ use native.Mathlib.Omega.{arith}
 use lib.ListN.{length, take, length-append, length-drop}
 use lib.Seq.{paste, paste-zero, length-paste, take-paste, drop-paste, drop-drop, take-length, length-take-le}
 use borrow.Author.Tests.{leb-true}
-use Rattle.lines.specs.Buffer.{written, Put, PutIn, line_bytes, has_room, put_line}
+use Rattle.lines.specs.declared.writer.Writer.{Writer}
+use Rattle.lines.specs.Buffer.{written, Put, Wrote, line_bytes, has_room, put_line}
 
 module _ (out : List ℕ) (at : ℕ) where
   pub length_written : (s : List ℕ) → at + length s ≤ length out → length (written out at s) ≡ length out
@@ -34,21 +35,27 @@ then {out} {after} {last} {at} {next} {end} {s} {t} p q =
 
 -- ---- with a bound on their length
 
-pub nothing : (out : List ℕ) (at : ℕ) → at ≤ length out → PutIn 0 out at [] out at
-nothing out at h =
+pub nothing : (w : Writer) → w.at ≤ length w.out.now → Wrote 0 w [] w
+nothing w h =
     record {
-      put = record { room = omega arith; place = omega arith; buffer = paste-zero out at [] };
+      same_reference = refl;
+      put = record { room = omega arith; place = omega arith; buffer = paste-zero w.out.now w.at [] };
       short = omega arith;
       same_length = refl;
     }
 
 -- one more piece
-module _ {m n : ℕ} {out after last : List ℕ} {at next end : ℕ} {s t : List ℕ} where
-  pub also : PutIn m out at s after next → PutIn n after next t last end → PutIn (m + n) out at (s ++ t) last end
-  also p q = record { put = then p.put q.put; short = rw length-append (omega (arith, p.short, q.short)); same_length = q.same_length ∙ p.same_length }
+pub also : {m n : ℕ} {before between after : Writer} {s t : List ℕ} → Wrote m before s between → Wrote n between t after → Wrote (m + n) before (s ++ t) after
+also p q =
+    record {
+      same_reference = q.same_reference ∙ p.same_reference;
+      put = then p.put q.put;
+      short = rw length-append (omega (arith, p.short, q.short));
+      same_length = q.same_length ∙ p.same_length;
+    }
 
-pub at_most : {m n : ℕ} {out after : List ℕ} {at next : ℕ} {s : List ℕ} → PutIn m out at s after next → m ≤ n → PutIn n out at s after next
-at_most p h = record { put = p.put; short = omega (arith, p.short); same_length = p.same_length }
+pub at_most : {m n : ℕ} {before after : Writer} {s : List ℕ} → Wrote m before s after → m ≤ n → Wrote n before s after
+at_most p h = record { same_reference = p.same_reference; put = p.put; short = omega (arith, p.short); same_length = p.same_length }
 
 -- ---- whole lines
 
@@ -61,7 +68,8 @@ abbrev pub Line : List ℕ → ℕ → List ℕ → List ℕ → ℕ → Type 0
 Line out at text after next = ((next, after) ≡ put_line out at text) × (next ≤ at + line_bytes)
 
 -- with room for any line, and without
-pub line : {out text after : List ℕ} {at next : ℕ} → has_room out at ≡ true → PutIn line_bytes out at text after next → Line out at text after next
+pub line : {before after : Writer} {text : List ℕ} → has_room before.out.now before.at ≡ true → Wrote line_bytes before text after
+    → Line before.out.now before.at text after.out.now after.at
 unfolding put_line
 line h p = (rw (h, p.put.place, p.put.buffer), omega (arith, p.put.place, p.short))
 

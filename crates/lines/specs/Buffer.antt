@@ -2,6 +2,7 @@
 use Rattle.std.specs.Prelude.{ℕ, ◌+◌, ◌*◌, ◌≤◌, ◌≡◌, Bool, cond, List, leb, length}
 use Rattle.std.proofs.Math.Seq.{paste}
 use Rattle.model.specs.Limits.{semaphores}
+use Rattle.lines.specs.declared.writer.Writer.{Writer}
 
 -- the buffer with a text at a position, and everything else as it was
 abbrev pub written : List ℕ → ℕ → List ℕ → List ℕ
@@ -13,11 +14,12 @@ pub record Put (out : List ℕ) (at : ℕ) (text after : List ℕ) (next : ℕ) 
   pub place : next ≡ at + length text
   pub buffer : after ≡ written out at text
 
--- .. and it is no longer than this
-pub record PutIn (most : ℕ) (out : List ℕ) (at : ℕ) (text after : List ℕ) (next : ℕ) : Type 0 where
-  pub put : Put out at text after next
+-- a writer that held a buffer holds it still, and wrote a text that is no longer than this
+pub record Wrote (most : ℕ) (before : Writer) (text : List ℕ) (after : Writer) : Type 0 where
+  pub same_reference : after.out.ghost_name ≡ before.out.ghost_name
+  pub put : Put before.out.now before.at text after.out.now after.at
   pub short : length text ≤ most
-  pub same_length : length after ≡ length out
+  pub same_length : length after.out.now ≡ length before.out.now
 
 -- an at sign, and a position of three digits
 abbrev pub position_bytes : ℕ

@@ -10,16 +10,17 @@ ghost use Rattle.std.specs.Prelude.{◌≡◌, [], ◌∷◌, ◌+◌, ◌*◌, 
 ghost use Rattle.model.specs.Limits.{semaphores, processes};
 ghost use Rattle.wakings.specs.Wakings.{places_in, wakings_in};
 ghost use Rattle.lines.specs.Text.{newline, word_line, head_line, bad_line, position_text, waking_text, wakings_text, opening_text, event_text, query_text, numbers_text, read_text};
-ghost use Rattle.lines.specs.Buffer.{PutIn, put_line, line_bytes, position_bytes, waking_bytes, opening_bytes, number_bytes};
+ghost use Rattle.lines.specs.Buffer.{Wrote, put_line, line_bytes, position_bytes, waking_bytes, opening_bytes, number_bytes};
 
 use crate::writer::Writer;
+use itoa::Integer;
 use model::{ALL_READ, ONE_READ, PROCESSES, Position, Queried, Reading, Told, WAKING_BYTES};
 
 // The room that a line function asks for: that of a reading, which is the longest. It has an opening, three numbers of 32 bits for
 // each of eight semaphores, and a newline.
-const OPENING_BYTES: usize = 32;
+const OPENING_BYTES: usize = usize::MAX_STR_LEN + 1 + i32::MAX_STR_LEN;
 
-const NUMBER_BYTES: usize = 11;
+const NUMBER_BYTES: usize = 1 + u32::MAX_STR_LEN;
 
 const LINE_BYTES: usize = OPENING_BYTES + ALL_READ * NUMBER_BYTES + 1;
 
@@ -34,8 +35,7 @@ pub fn has_room(len: usize, at: usize) -> bool
 fn worded(line: &mut Writer<'_>, word: &[u8], n: usize)
     requires room { line.old.at + line_bytes ≤ length line.old.out.now }
     requires short { length word.now ≤ 8 }
-    ensures same_reference { line.new.out.ghost_name ≡ line.old.out.ghost_name }
-    ensures wrote { PutIn line_bytes line.old.out.now line.old.at (word_line word.now n) line.new.out.now line.new.at }
+    ensures { Wrote line_bytes line.old (word_line word.now n) line.new }
 {
     line.text(word);
     line.marked(b' ', n);
@@ -75,8 +75,7 @@ pub fn bad_line(out: &mut [u8], at: usize, code: u16) -> usize
 // What the line of any event begins with.
 fn opening(line: &mut Writer<'_>, position: usize, code: i32)
     requires { line.old.at + opening_bytes ≤ length line.old.out.now }
-    ensures same_reference { line.new.out.ghost_name ≡ line.old.out.ghost_name }
-    ensures wrote { PutIn opening_bytes line.old.out.now line.old.at (opening_text position code) line.new.out.now line.new.at }
+    ensures { Wrote opening_bytes line.old (opening_text position code) line.new }
 {
     line.number(position);
     line.marked(b' ', code);
@@ -85,8 +84,7 @@ fn opening(line: &mut Writer<'_>, position: usize, code: i32)
 // Writes which operation decided, behind its code; nothing where none did.
 fn decided(line: &mut Writer<'_>, position: Position)
     requires { line.old.at + position_bytes ≤ length line.old.out.now }
-    ensures same_reference { line.new.out.ghost_name ≡ line.old.out.ghost_name }
-    ensures wrote { PutIn position_bytes line.old.out.now line.old.at (position_text position) line.new.out.now line.new.at }
+    ensures { Wrote position_bytes line.old (position_text position) line.new }
 {
     match position {
         None => {}
@@ -97,8 +95,7 @@ fn decided(line: &mut Writer<'_>, position: Position)
 // Writes a waking as process=code, with the operation that decided, behind a blank.
 fn woke(line: &mut Writer<'_>, process: u8, code: u8, position: Position)
     requires { line.old.at + waking_bytes ≤ length line.old.out.now }
-    ensures same_reference { line.new.out.ghost_name ≡ line.old.out.ghost_name }
-    ensures wrote { PutIn waking_bytes line.old.out.now line.old.at (waking_text process (pos code) position) line.new.out.now line.new.at }
+    ensures { Wrote waking_bytes line.old (waking_text process (pos code) position) line.new }
 {
     line.marked(b' ', process);
     line.marked(b'=', code);
@@ -108,8 +105,7 @@ fn woke(line: &mut Writer<'_>, process: u8, code: u8, position: Position)
 // Writes the first `count` wakings of a list, and no more than there are.
 fn all_woken(line: &mut Writer<'_>, count: usize, list: &[u8; WAKING_BYTES])
     requires { line.old.at + processes * waking_bytes ≤ length line.old.out.now }
-    ensures same_reference { line.new.out.ghost_name ≡ line.old.out.ghost_name }
-    ensures wrote { PutIn (processes * waking_bytes) line.old.out.now line.old.at (wakings_text (wakings_in count (places_in list.now))) line.new.out.now line.new.at }
+    ensures { Wrote (processes * waking_bytes) line.old (wakings_text (wakings_in count (places_in list.now))) line.new }
 {
     for k in 0..count.min(PROCESSES) {
         woke(
@@ -124,8 +120,7 @@ fn all_woken(line: &mut Writer<'_>, count: usize, list: &[u8; WAKING_BYTES])
 // The numbers that an event told, and its wakings.
 fn all_told(line: &mut Writer<'_>, position: usize, told: Told, list: &[u8; WAKING_BYTES])
     requires { line.old.at + line_bytes ≤ length line.old.out.now }
-    ensures same_reference { line.new.out.ghost_name ≡ line.old.out.ghost_name }
-    ensures wrote { PutIn line_bytes line.old.out.now line.old.at (event_text position told.code told.position told.value told.looks (wakings_in told.woken (places_in list.now))) line.new.out.now line.new.at }
+    ensures { Wrote line_bytes line.old (event_text position told.code told.position told.value told.looks (wakings_in told.woken (places_in list.now))) line.new }
 {
     opening(line, position, told.code);
     decided(line, told.position);
@@ -157,8 +152,7 @@ pub fn told_line(
 // The numbers of a query's line.
 fn queried(line: &mut Writer<'_>, position: usize, q: Queried)
     requires { line.old.at + line_bytes ≤ length line.old.out.now }
-    ensures same_reference { line.new.out.ghost_name ≡ line.old.out.ghost_name }
-    ensures wrote { PutIn line_bytes line.old.out.now line.old.at (query_text position q.code q.value q.last q.increase q.zero) line.new.out.now line.new.at }
+    ensures { Wrote line_bytes line.old (query_text position q.code q.value q.last q.increase q.zero) line.new }
 {
     opening(line, position, q.code);
     line.marked(b' ', q.value);
@@ -184,8 +178,7 @@ pub fn query_line(out: &mut [u8], at: usize, position: usize, q: Queried) -> usi
 // Writes the first `count` numbers, and no more than there are, a blank before each.
 fn all_numbers(line: &mut Writer<'_>, count: usize, numbers: &[u32; ALL_READ])
     requires { line.old.at + 3 * semaphores * number_bytes ≤ length line.old.out.now }
-    ensures same_reference { line.new.out.ghost_name ≡ line.old.out.ghost_name }
-    ensures wrote { PutIn (3 * semaphores * number_bytes) line.old.out.now line.old.at (numbers_text (take count numbers.now)) line.new.out.now line.new.at }
+    ensures { Wrote (3 * semaphores * number_bytes) line.old (numbers_text (take count numbers.now)) line.new }
 {
     for n in &numbers[..count.min(ALL_READ)] {
         line.marked(b' ', *n);
@@ -195,8 +188,7 @@ fn all_numbers(line: &mut Writer<'_>, count: usize, numbers: &[u32; ALL_READ])
 // The numbers of a reading's line.
 fn all_read(line: &mut Writer<'_>, position: usize, reading: Reading, numbers: &[u32; ALL_READ])
     requires { line.old.at + line_bytes ≤ length line.old.out.now }
-    ensures same_reference { line.new.out.ghost_name ≡ line.old.out.ghost_name }
-    ensures wrote { PutIn line_bytes line.old.out.now line.old.at (read_text position reading.code (take (3 * reading.count) numbers.now)) line.new.out.now line.new.at }
+    ensures { Wrote line_bytes line.old (read_text position reading.code (take (3 * reading.count) numbers.now)) line.new }
 {
     opening(line, position, reading.code);
     all_numbers(line, ONE_READ * usize::from(reading.count), numbers);

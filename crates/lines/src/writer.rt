@@ -1,6 +1,6 @@
 // Writes texts and numbers one behind the other into a lent buffer.
 ghost use Rattle.std.specs.Prelude.{◌≡◌, [], ◌∷◌, ◌+◌, ◌≤◌, length};
-ghost use Rattle.lines.specs.Buffer.{PutIn};
+ghost use Rattle.lines.specs.Buffer.{Wrote};
 
 use itoa::{Buffer, Integer};
 
@@ -15,8 +15,7 @@ impl<'a> Writer<'a> {
     // Writes a text.
     pub fn text(&mut self, text: &[u8])
         requires { self.old.at + length text.now ≤ length self.old.out.now }
-        ensures same_reference { self.new.out.ghost_name ≡ self.old.out.ghost_name }
-        ensures wrote { PutIn (length text.now) self.old.out.now self.old.at text.now self.new.out.now self.new.at }
+        ensures { Wrote (length text.now) self.old text.now self.new }
     {
         let end = self.at + text.len();
         self.out[self.at..end].copy_from_slice(text);
@@ -26,8 +25,7 @@ impl<'a> Writer<'a> {
     // Writes a byte.
     pub fn byte(&mut self, byte: u8)
         requires { self.old.at + 1 ≤ length self.old.out.now }
-        ensures same_reference { self.new.out.ghost_name ≡ self.old.out.ghost_name }
-        ensures wrote { PutIn 1 self.old.out.now self.old.at (byte ∷ []) self.new.out.now self.new.at }
+        ensures { Wrote 1 self.old (byte ∷ []) self.new }
     {
         self.out[self.at] = byte;
         self.at += 1;
@@ -36,8 +34,7 @@ impl<'a> Writer<'a> {
     // Writes a number in decimal.
     pub fn number<I: Integer>(&mut self, n: I)
         requires { self.old.at + I.MAX_STR_LEN ≤ length self.old.out.now }
-        ensures same_reference { self.new.out.ghost_name ≡ self.old.out.ghost_name }
-        ensures wrote { PutIn I.MAX_STR_LEN self.old.out.now self.old.at (I.text n) self.new.out.now self.new.at }
+        ensures { Wrote I.MAX_STR_LEN self.old (I.text n) self.new }
     {
         let mut digits = Buffer::new();
         self.text(digits.format(n).as_bytes());
@@ -46,8 +43,7 @@ impl<'a> Writer<'a> {
     // Writes a byte and a number.
     pub fn marked<I: Integer>(&mut self, mark: u8, n: I)
         requires { self.old.at + 1 + I.MAX_STR_LEN ≤ length self.old.out.now }
-        ensures same_reference { self.new.out.ghost_name ≡ self.old.out.ghost_name }
-        ensures wrote { PutIn (1 + I.MAX_STR_LEN) self.old.out.now self.old.at (mark ∷ I.text n) self.new.out.now self.new.at }
+        ensures { Wrote (1 + I.MAX_STR_LEN) self.old (mark ∷ I.text n) self.new }
     {
         self.byte(mark);
         self.number(n);

@@ -1,12 +1,9 @@
 use Prim.Native.Nat.{◌*◌}
-use mathlib.Core.Path.{◌≡◌}
 use lib.ListN.{take}
 use Rattle.lines.specs.Text.{numbers_text}
-use Rattle.lines.specs.Buffer.{PutIn, number_bytes}
+use Rattle.lines.specs.Buffer.{Wrote, number_bytes}
 use Rattle.lines.proofs.all_numbers.Given as goal
 
 -- `lines::all_numbers` meets its contract. The loop's invariant: the numbers up to here are written.
 abbrev pub invariant-loop-n : goal.invariant-loop-n
-invariant-loop-n l =
-    (l.line.out.ghost_name ≡ l.initial.line.out.ghost_name)
-    × PutIn (number_bytes * l.n-index) l.initial.line.out.now l.initial.line.at (numbers_text (take l.n-index l.numbers)) l.line.out.now l.line.at
+invariant-loop-n l = Wrote (number_bytes * l.n-index) l.initial.line (numbers_text (take l.n-index l.numbers)) l.line

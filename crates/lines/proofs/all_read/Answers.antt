@@ -8,9 +8,9 @@ use Rattle.lines.proofs.Writing.{also, at_most}
 use Rattle.lines.proofs.all_read.Goals as goal
 
 -- `lines::all_read` meets its contract, piece by piece.
-pub returns-clause-wrote : goal.returns-clause-wrote
+pub returns : goal.returns
 unfolding read_text
-returns-clause-wrote c =
+returns c =
     let code : SFits w32 c.args.reading.code = search rules in
-    let begun = rw (to_z-of_z code) at c.opening.ensures.wrote in
-    at_most (also (also begun (rw c.from.ensures at c.all_numbers.ensures.wrote)) c.byte.ensures.wrote) (omega arith)
+    let begun = rw (to_z-of_z code) at c.opening.ensures in
+    at_most (also (also begun (rw c.from.ensures at c.all_numbers.ensures)) c.byte.ensures) (omega arith)

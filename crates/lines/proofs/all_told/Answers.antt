@@ -9,14 +9,14 @@ use Rattle.lines.proofs.Writing.{also, at_most}
 use Rattle.lines.proofs.all_told.Goals as goal
 
 -- `lines::all_told` meets its contract, piece by piece.
-pub returns-clause-wrote : goal.returns-clause-wrote
+pub returns : goal.returns
 unfolding event_text
-returns-clause-wrote c =
+returns c =
     let t = c.args.told in
     let code : SFits w32 t.code = search rules in
     let value : Fits w32 t.value = search rules in
     let looks : Fits w64 t.looks = search rules in
-    let begun = also (rw (to_z-of_z code) at c.opening.ensures.wrote) c.decided.ensures.wrote in
-    let valued = also begun (marked_digits c.marked.ensures.wrote (omega (arith, value.fits))) in
-    let looked = also valued (marked_digits c.marked-2.ensures.wrote (omega (arith, looks.fits))) in
-    at_most (also (also looked c.all_woken.ensures.wrote) c.byte.ensures.wrote) (omega arith)
+    let begun = also (rw (to_z-of_z code) at c.opening.ensures) c.decided.ensures in
+    let valued = also begun (marked_digits c.marked.ensures (omega (arith, value.fits))) in
+    let looked = also valued (marked_digits c.marked-2.ensures (omega (arith, looks.fits))) in
+    at_most (also (also looked c.all_woken.ensures) c.byte.ensures) (omega arith)

@@ -1,5 +1,5 @@
 use Prim.Native.Nat.{ℕ, ◌+◌, ◌*◌, min}
-use mathlib.Core.Path.{◌≡◌, refl, sym, ap, ◌∙◌}
+use mathlib.Core.Path.{◌≡◌, sym, ap}
 use mathlib.Core.List.{List, map}
 use native.Mathlib.Omega.{arith}
 use lib.ListN.{length}
@@ -19,22 +19,20 @@ wakings_most n xs = ap (map waking_in) (sym (take_min n xs))
 
 pub loop-k-init : goal.loop-k-init
 unfolding wakings_text wakings_in
-loop-k-init c = let w = c.args.line.now in (refl, nothing w.out.now w.at (omega arith))
+loop-k-init c = nothing c.args.line.now (omega arith)
 
 pub loop-k-preserved : goal.loop-k-preserved
 loop-k-preserved c =
     let l = c.loop-k in
     let xs = places_in c.args.list.now in
     let more : waking_bytes * (l.k + 1) ≡ waking_bytes * l.k + waking_bytes = omega arith in
-    let here = rw (c.process_of.ensures, c.code_of.ensures, c.position_of.ensures) at c.woke.ensures.wrote in (
-      c.woke.ensures.same_reference ∙ l.invariant.0,
-      rw (more, wakings_more xs l.k no_waking (omega (arith, length_in c.args.list.now))) (also l.invariant.1 here),
-    )
+    let here = rw (c.process_of.ensures, c.code_of.ensures, c.position_of.ensures) at c.woke.ensures in
+    rw (more, wakings_more xs l.k no_waking (omega (arith, length_in c.args.list.now))) (also l.invariant here)
 
-pub returns-clause-wrote : goal.returns-clause-wrote
-returns-clause-wrote c =
+pub returns : goal.returns
+returns c =
     let l = c.loop-k in
     let xs = places_in c.args.list.now in
     let all : length xs ≡ 8 = length_in c.args.list.now in
     let most : l.k ≡ min c.args.count (length xs) = omega arith in
-    rw (wakings_most c.args.count xs, ← most) (at_most l.invariant.1 (omega arith))
+    rw (wakings_most c.args.count xs, ← most) (at_most l.invariant (omega arith))

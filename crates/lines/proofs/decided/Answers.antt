@@ -7,14 +7,13 @@ use Rattle.lines.proofs.Decimal.{marked_digits}
 use Rattle.lines.proofs.Writing.{nothing, at_most}
 use Rattle.lines.proofs.decided.Goals as goal
 
-pub returns-in-None-clause-wrote : goal.returns-in-None-clause-wrote
+pub returns-in-None : goal.returns-in-None
 unfolding position_text
-returns-in-None-clause-wrote c =
-    let w = c.args.line.now in
-    rw c.in-None.is (at_most (nothing w.out.now w.at (search rules)) (omega arith))
+returns-in-None c =
+    rw c.in-None.is (at_most (nothing c.args.line.now (search rules)) (omega arith))
 
-pub returns-in-Some-clause-wrote : goal.returns-in-Some-clause-wrote
+pub returns-in-Some : goal.returns-in-Some
 unfolding position_text
-returns-in-Some-clause-wrote c =
+returns-in-Some c =
     let n : Fits w8 c.in-Some.number = search rules in
-    rw c.in-Some.is (marked_digits c.marked.ensures.wrote (omega (arith, n.fits)))
+    rw c.in-Some.is (marked_digits c.marked.ensures (omega (arith, n.fits)))

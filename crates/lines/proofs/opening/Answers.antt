@@ -4,6 +4,6 @@ use Rattle.lines.proofs.Writing.{also}
 use Rattle.lines.proofs.opening.Goals as goal
 
 -- `lines::opening` meets its contract, piece by piece.
-pub returns-clause-wrote : goal.returns-clause-wrote
-returns-clause-wrote c =
-    also (in_digits c.number.ensures.wrote (omega arith)) (marked_code c.marked.ensures.wrote c.ranges.code)
+pub returns : goal.returns
+returns c =
+    also (in_digits c.number.ensures (omega arith)) (marked_code c.marked.ensures c.ranges.code)

@@ -8,5 +8,5 @@ returns-then-not-has_room-clause-out_after c = (no_line_lem c.args.out.now _ c.a
 
 pub returns-clause-out_after : goal.returns-clause-out_after
 returns-clause-out_after c =
-    let written = line (sym c.has_room.ensures ∙ c.if-not-has_room.false) c.worded.ensures.wrote in
+    let written = line (sym c.has_room.ensures ∙ c.if-not-has_room.false) c.worded.ensures in
     search (rules, written.0)

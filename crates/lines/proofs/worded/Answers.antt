@@ -5,8 +5,8 @@ use Rattle.lines.proofs.Writing.{also, at_most}
 use Rattle.lines.proofs.worded.Goals as goal
 
 -- `lines::worded` meets its contract, piece by piece.
-pub returns-clause-wrote : goal.returns-clause-wrote
+pub returns : goal.returns
 unfolding word_line
-returns-clause-wrote c =
-    let number = marked_digits c.marked.ensures.wrote (omega arith) in
-    at_most (also (also c.text.ensures.wrote number) c.byte.ensures.wrote) (omega arith)
+returns c =
+    let number = marked_digits c.marked.ensures (omega arith) in
+    at_most (also (also c.text.ensures number) c.byte.ensures) (omega arith)
