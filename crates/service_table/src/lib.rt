@@ -29,8 +29,8 @@ pub fn differing_mask(before: [u16; SEMAPHORES], after: [u16; SEMAPHORES]) -> u8
     ensures { result ≡ differing 0 0 before after }
 {
     let mut mask: u8 = 0;
-    for i in 0..SEMAPHORES {
-        if before[i] != after[i] {
+    for (i, value) in before.iter().enumerate() {
+        if *value != after[i] {
             mask = mask | (1u8 << i);
         }
     }
@@ -59,8 +59,6 @@ fn clear_adjustments(adjustments: &mut [i16; ALL_ADJUSTMENTS], slot: usize)
     requires { IsSlot slot }
     ensures { adjustments.new ≡ clear_rows processes slot adjustments.old }
 {
-    // As a slice once: that tells the proof how long it is.
-    let _all: &[i16] = &*adjustments;
     for n in 0..PROCESSES {
         put_adjustments(&mut *adjustments, (n as u8) + 1, slot, [0i16; SEMAPHORES]);
     }
@@ -137,11 +135,7 @@ pub fn assign_all(
 fn all_zero(undo: [i16; SEMAPHORES]) -> bool
     ensures { result ≡ all_zero undo }
 {
-    let mut some: i16 = 0;
-    for j in 0..SEMAPHORES {
-        some = some | undo[j];
-    }
-    some == 0
+    undo.iter().all(|adjustment| *adjustment == 0)
 }
 
 // Each value with its adjustment added, cut to what a value can be.
@@ -149,9 +143,8 @@ fn cut_all(values: [u16; SEMAPHORES], undo: [i16; SEMAPHORES]) -> [u16; SEMAPHOR
     ensures { result ≡ undo_all values undo }
 {
     let mut out = values;
-    for k in 0..SEMAPHORES {
-        let value = cut(values[k], undo[k]);
-        out[k] = value;
+    for (k, value) in out.iter_mut().enumerate() {
+        *value = cut(*value, undo[k]);
     }
     out
 }
@@ -170,8 +163,6 @@ pub fn undo_slot(
     ensures adjustments_after { host_in host.new adjustments.new ≡ tabled (host_in host.old adjustments.old) (exited_at (table_in (host_in host.old adjustments.old)) process slot) }
     ensures value { result ≡ differing 0 0 (values_of (table_in (host_in host.old adjustments.old)) slot) (values_of (exited_at (table_in (host_in host.old adjustments.old)) process slot) slot) }
 {
-    // As a slice once: that tells the proof how long it is.
-    let _all: &[i16] = &*adjustments;
     let undo = adjustments_of(&*adjustments, process, slot);
     if all_zero(undo) {
         return 0;

@@ -1,11 +1,6 @@
-use Prim.Native.Nat.{◌-◌}
-use Rattle.model.specs.Limits.{processes}
 use Rattle.service_table.proofs.LoopLaws.{Clearing}
 use Rattle.service_table.proofs.clear_adjustments.Given as goal
 
 -- `clear_adjustments` meets its contract: one process a turn.
 abbrev pub invariant-loop-n : goal.invariant-loop-n
 invariant-loop-n l = Clearing l.initial.adjustments l.slot l.adjustments l.n
-
-abbrev pub decreases-loop-n : goal.decreases-loop-n
-decreases-loop-n l = processes - l.n

@@ -8,4 +8,4 @@ unfolding clear_number
 loop-n-init c = search rules
 
 pub loop-n-preserved : goal.loop-n-preserved
-loop-n-preserved c = (search rules, clear_number_more _ _ _ _ _ _ c.loop-n.invariant.1 c.put_adjustment.ensures)
+loop-n-preserved c = clear_number_more _ _ _ _ _ _ c.loop-n.invariant c.put_adjustment.ensures

@@ -1,12 +1,7 @@
-use Prim.Native.Nat.{◌-◌, ◌≤◌}
 use mathlib.Core.Path.{◌≡◌}
-use Rattle.model.specs.Limits.{processes}
 use Rattle.model.specs.Events.{clear_number}
 use Rattle.service_table.proofs.forget.Given as goal
 
 -- `forget` meets its contract: one process a turn.
 abbrev pub invariant-loop-n : goal.invariant-loop-n
-invariant-loop-n l = (l.n ≤ processes) × (l.adjustments ≡ clear_number l.n l.slot l.number l.initial.adjustments)
-
-abbrev pub decreases-loop-n : goal.decreases-loop-n
-decreases-loop-n l = processes - l.n
+invariant-loop-n l = l.adjustments ≡ clear_number l.n l.slot l.number l.initial.adjustments

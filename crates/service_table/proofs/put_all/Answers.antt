@@ -4,7 +4,6 @@ use mathlib.Core.Path.{◌≡◌, sym, ◌∙◌}
 use Rattle.model.specs.State.{row}
 use Rattle.host.specs.Parts.{values, row_in, put}
 use Rattle.service_table.proofs.SettingLaws.{put_more, put_end}
-use borrow.Author.Rules.{rules}
 use Rattle.service_table.proofs.put_all.Goals as goal
 use Rattle.service_table.proofs.put_all.Goals.{After-put_value}
 
@@ -13,7 +12,7 @@ wrote : (c : After-put_value) → row_in c.put_value.new.host ≡ put (row_in c.
 wrote c = c.put_value.ensures
 
 pub loop-n-preserved : goal.loop-n-preserved
-loop-n-preserved c = (search rules, put_more c.args.bytes.now (row_in c.loop-n.host) (row_in c.put_value.new.host) (row c.args.slot) c.loop-n.n c.loop-n-test.true (wrote (goal.at.loop-n-preserved c).After-put_value) c.value_in.ensures ∙ c.loop-n.invariant.1)
+loop-n-preserved c = put_more c.args.bytes.now (row_in c.loop-n.host) (row_in c.put_value.new.host) (row c.args.slot) c.loop-n.n c.loop-n-test.true (wrote (goal.at.loop-n-preserved c).After-put_value) c.value_in.ensures ∙ c.loop-n.invariant
 
 pub returns : goal.returns
-returns c = sym (put_end _ _ _ c.loop-n.n (omega arith)) ∙ c.loop-n.invariant.1
+returns c = sym (put_end _ _ _ c.loop-n.n (omega arith)) ∙ c.loop-n.invariant

