@@ -1,16 +1,16 @@
 -- The sleeper of a process: whether it sleeps, where it stands, and the queue without it.
-use Prim.Native.Nat.{ℕ, zero, suc, ◌+◌, ◌≤◌, ◌<◌}
+use Prim.Native.Nat.{ℕ, zero, suc, ◌≤◌, ◌<◌}
 use native.Mathlib.Nat.{not-suc-le-zero, le_of_suc-le-suc}
-use native.Mathlib.Numerals.{add-one}
 use native.Mathlib.Omega.{arith}
 use mathlib.Core.Path.{◌≡◌, refl, sym, ap, ◌∙◌}
 use mathlib.Core.Logic.{◌≢◌, ⊎_elim}
 use mathlib.Core.Bool.{Bool, true, false, cond, ◌||◌}
 use mathlib.Core.List.{List, [], ◌∷◌}
-use borrow.Author.Tests.{eqb-true, eq-eqb, ne_eqb, lt-ltb}
+use borrow.Author.Tests.{eq-eqb, ne_eqb, lt-ltb}
 use lib.Dec.{eqb, ltb}
-use lib.ListN.{length, get_or, drop, drop_of_length-le, get_or-eq_default}
-use lib.Seq.{drop-cons}
+use lib.ListN.{length, get_or, get_or-eq_default}
+use Rattle.std.specs.Prelude.{Option, MatchOption}
+use Rattle.std.proofs.Common.{None, Some}
 use Rattle.model.specs.Limits.{processes}
 use Rattle.model.specs.State.{Sleeper, no_sleeper}
 use Rattle.model.specs.Waking.{without}
@@ -21,13 +21,14 @@ use Rattle.model.specs.Invariant.{Distinct, apart}
 use Rattle.model.proofs.Lists.{first, rest, all_map, all_at}
 use Rattle.model.proofs.QueueLaws.{awake}
 use Rattle.host.specs.Parts.{Row, order, sizes}
+use Rattle.host.specs.Parts as Parts
 use Rattle.host.specs.Holding.{of_process, by_process, the_size, with_queue, entry, queue_in}
 use Rattle.host.specs.Queue.{Room, QueueHeld}
 use Rattle.host.proofs.PartLaws.{less_or_not}
 use Rattle.host.proofs.ProcessLaws.{Awake, of_none, length_by, of_process_lem}
 use Rattle.host.proofs.QueueRows.{entry_is}
-use Rattle.service_queue.specs.Seated.{Seated, position_of}
-use Rattle.service_queue.proofs.QueueHeldLaws.{part_is, process_is}
+use Rattle.service_queue.specs.Seated.{Seated, IsPositionOf}
+use Rattle.service_queue.proofs.QueueHeldLaws.{part_is, asleep_is, process_is}
 
 -- ---- it sleeps if its array has bytes
 
@@ -64,56 +65,31 @@ asleep_read {r} k p =
 -- ---- its position
 
 module _ (p : ℕ) where
-  pub asleep_there : (q : List Sleeper) → asleep p q ≡ true → position_of p q < length q
-  unfolding asleep position_of
-  asleep_there [] e = let z : ◌≡◌ {A = ℕ} 0 1 = cc in omega arith
-  asleep_there (s ∷ q) e = go (eqb s.process p) e (asleep_there q)
+  -- nobody of a queue is it
+  pub nobody_is : (q : List Sleeper) → ((i : ℕ) → i < length q → (get_or q i no_sleeper).process ≢ p) → asleep p q ≡ false
+  unfolding asleep
+  nobody_is [] h = refl
+  nobody_is (s ∷ q) h = rw (ne_eqb s.process p (h 0 (omega arith))) (nobody_is q (λ i l. h (suc i) (omega arith)))
+
+  -- somebody of a queue is it
+  pub somebody_is : (q : List Sleeper) (i : ℕ) → IsPositionOf p q i → asleep p q ≡ true
+  unfolding asleep
+  somebody_is [] i h = absurd (not-suc-le-zero h.inside)
+  somebody_is (s ∷ q) zero h = rw (eq-eqb s.process p h.own)
+  somebody_is (s ∷ q) (suc i) h = or_true (eqb s.process p) (somebody_is q i (record { inside = le_of_suc-le-suc h.inside; own = h.own }))
     where
-      go : (b : Bool) → (b || asleep p q) ≡ true → (asleep p q ≡ true → position_of p q < length q) → cond b 0 (suc (position_of p q)) < suc (length q)
-      go true e more = omega arith
-      go false e more = omega (arith, more e)
+      or_true : (a : Bool) {b : Bool} → b ≡ true → (a || b) ≡ true
+      or_true true e = refl
+      or_true false e = e
 
-  position_found : (q : List Sleeper) → position_of p q < length q → (get_or q (position_of p q) no_sleeper).process ≡ p
-  unfolding position_of
-  position_found [] h = absurd (not-suc-le-zero h)
-  position_found (s ∷ q) h = go (eqb s.process p) refl h (position_found q)
-    where
-      go : (b : Bool) → eqb s.process p ≡ b → cond b 0 (suc (position_of p q)) < suc (length q)
-          → (position_of p q < length q → (get_or q (position_of p q) no_sleeper).process ≡ p) → (get_or (s ∷ q) (cond b 0 (suc (position_of p q))) no_sleeper).process ≡ p
-      go true e h more = eqb-true s.process p e
-      go false e h more = more (le_of_suc-le-suc h)
-
--- the loop: the position lies i further than the one among those from i on
-pub record Searching (p : ℕ) (r : Row) (i : ℕ) : Type 0 where
-  pub within : i ≤ length (queue_in r)
-  pub further : position_of p (queue_in r) ≡ i + position_of p (drop i (queue_in r))
-
-pub search_none : (p : ℕ) (r : Row) → Searching p r 0
-search_none p r = record { within = omega arith; further = omega arith }
-
-module _ {p : ℕ} {r : Row} {i : ℕ} (v : Searching p r i) where
-  pub search_end : length (queue_in r) ≤ i → i ≡ position_of p (queue_in r)
-  unfolding position_of
-  search_end h =
-      let e : position_of p (drop i (queue_in r)) ≡ 0 = rw (drop_of_length-le (queue_in r) h) in
-      omega (arith, v.further, e)
-
-  module _ (k : QueueHeld r) (h : i < length (queue_in r)) {x : ℕ} (ex : x ≡ get_or (r order) i 0) where
-    here : x ≡ (get_or (queue_in r) i no_sleeper).process
-    here = ex ∙ process_is k i h
-
-    pub search_found : x ≡ p → i ≡ position_of p (queue_in r)
-    unfolding position_of
-    search_found e =
-        let z : position_of p (drop i (queue_in r)) ≡ 0 = rw (drop-cons (queue_in r) i no_sleeper h, position_of, eq-eqb (get_or (queue_in r) i no_sleeper).process p (sym here ∙ e)) in
-        omega (arith, v.further, z)
-
-    pub search_more : x ≢ p → Searching p r (i + 1)
-    unfolding position_of
-    search_more n =
-        let z : position_of p (drop i (queue_in r)) ≡ suc (position_of p (drop (i + 1) (queue_in r))) =
-        rw (add-one, drop-cons (queue_in r) i no_sleeper h, position_of, ne_eqb (get_or (queue_in r) i no_sleeper).process p (λ (e : (get_or (queue_in r) i no_sleeper).process ≡ p). n (here ∙ e))) in
-        record { within = omega arith; further = omega (arith, v.further, z) }
+-- the order is looked at from the oldest on, as far as it is found
+pub position_is : {r : Row} → QueueHeld r → (p n : ℕ) → n ≡ get_or (r Parts.asleep) 0 0 → (o : Option ℕ)
+    → MatchOption o ((k : ℕ) → 0 ≤ k → k < n → get_or (r order) k 0 ≢ p) (λ i. (0 ≤ i) × (i < n) × (get_or (r order) i 0 ≡ p) × ((k : ℕ) → 0 ≤ k → k < i → get_or (r order) k 0 ≢ p))
+    → MatchOption o (asleep p (queue_in r) ≡ false) (IsPositionOf p (queue_in r))
+position_is {r} v p n e None h = nobody_is p (queue_in r) (λ i l f. h i (omega arith) (omega (arith, e, asleep_is v)) (process_is v i l ∙ f))
+position_is {r} v p n e (Some i) h =
+    let l : i < length (queue_in r) = omega (arith, e, asleep_is v, h.1) in
+    record { inside = l; own = sym (process_is v i l) ∙ h.2 }
 
 -- ---- the queue without it
 
@@ -133,12 +109,8 @@ module _ (p : ℕ) where
       rw (ne_eqb s.process p n) (ap (λ (r : List Sleeper). s ∷ r) (keep_without q i d g e))
 
   module _ {r : Row} (k : QueueHeld r) where
-    pub left_asleep : asleep p (queue_in r) ≡ true → {r' : Row} {at : ℕ} → at ≡ position_of p (queue_in r) → r' ≡ with_queue r (without (queue_in r) at)
-        → r' ≡ with_queue r (keep (not_of p) (queue_in r))
-    left_asleep a {r'} {at} ea e =
-        let h : position_of p (queue_in r) < length (queue_in r) = asleep_there p (queue_in r) a in
-        e ∙ ap (λ (i : ℕ). with_queue r (without (queue_in r) i)) ea
-        ∙ ap (with_queue r) (sym (keep_without (queue_in r) (position_of p (queue_in r)) k.fits.distinct h (position_found p (queue_in r) h)))
+    pub left_asleep : {at : ℕ} → IsPositionOf p (queue_in r) at → {r' : Row} → r' ≡ with_queue r (without (queue_in r) at) → r' ≡ with_queue r (keep (not_of p) (queue_in r))
+    left_asleep {at} h e = e ∙ ap (with_queue r) (sym (keep_without (queue_in r) at k.fits.distinct h.inside h.own))
 
     pub left_awake : asleep p (queue_in r) ≡ false → r ≡ with_queue r (keep (not_of p) (queue_in r))
     left_awake a = k.holds ∙ ap (with_queue r) (sym (keep_awake (queue_in r) (awake p (queue_in r) a)))

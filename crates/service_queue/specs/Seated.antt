@@ -1,7 +1,7 @@
 -- A row whose parts hold the queue that they show, no array of it empty.
-use Rattle.std.specs.Prelude.{ℕ, suc, ◌-◌, ◌<◌, cond, List, [], ◌∷◌, eqb, length, drop, set}
+use Rattle.std.specs.Prelude.{◌≡◌, ℕ, suc, ◌-◌, ◌<◌, List, length, get_or, drop, set}
 use Rattle.std.proofs.Math.Seq.{paste}
-use Rattle.model.specs.State.{Sleeper}
+use Rattle.model.specs.State.{Sleeper, no_sleeper}
 use Rattle.model.specs.Runs.{All}
 use Rattle.host.specs.Parts.{Row}
 use Rattle.host.specs.Holding.{queue_in}
@@ -11,10 +11,10 @@ pub record Seated (r : Row) : Type 0 where
   pub holding : QueueHeld r
   pub some : All (λ (s : Sleeper). 0 < length s.array) (queue_in r)
 
--- the position of the first sleeper of a process; the number of the sleepers if there is none
-unfoldable pub position_of : ℕ → List Sleeper → ℕ
-position_of p [] = 0
-position_of p (s ∷ q) = cond (eqb s.process p) 0 (suc (position_of p q))
+-- the sleeper of a process stands there
+pub record IsPositionOf (p : ℕ) (q : List Sleeper) (at : ℕ) : Type 0 where
+  pub inside : at < length q
+  pub own : (get_or q at no_sleeper).process ≡ p
 
 -- those behind a position each one further up, as far as the last, whose place is free
 abbrev pub moved_up : List ℕ → ℕ → ℕ → List ℕ

@@ -1,7 +1,7 @@
 // A part of the service: the queue of the sleepers, in the host's row.
 #![tactic(auto)]
 
-ghost use Rattle.std.specs.Prelude.{◌≡◌, ◌≢◌, [], ◌∷◌, ◌++◌, ◌<◌, ◌≤◌, pos, length};
+ghost use Rattle.std.specs.Prelude.{◌≡◌, ◌≢◌, false, [], ◌∷◌, ◌++◌, ◌<◌, ◌≤◌, pos, length, MatchOption};
 ghost use Rattle.model.specs.Limits.{processes};
 ghost use Rattle.model.specs.State.{Sleeper};
 ghost use Rattle.model.specs.Operation.{operations_of};
@@ -14,7 +14,7 @@ ghost use Rattle.host.specs.Parts.{order, row_in, with};
 ghost use Rattle.host.specs.Holding.{time_in, with_queue, sleeper_in, queue_in};
 ghost use Rattle.host.specs.Queue.{Room, QueueHeld};
 ghost use Rattle.wakings.specs.Wakings.{places_in, list_of};
-ghost use Rattle.service_queue.specs.Seated.{Seated, position_of, moved_up};
+ghost use Rattle.service_queue.specs.Seated.{Seated, IsPositionOf, moved_up};
 ghost use Rattle.service_queue.specs.Ended.{ended_by, spared_by, code_by};
 
 use host::{
@@ -55,11 +55,9 @@ fn move_up(host: &mut [u8; HOST_BYTES], at: usize, last: usize)
     requires { (at ≤ last) × (last < processes) }
     ensures { row_in host.new ≡ with (row_in host.old) order (moved_up (row_in host.old order) at last) }
 {
-    let mut i = at;
-    while i < last {
+    for i in at..last {
         let next = process_at(&*host, i + 1);
         put_process(&mut *host, i, next);
-        i += 1;
     }
     put_process(host, last, 0);
 }
@@ -88,20 +86,12 @@ pub fn is_asleep(host: &[u8; HOST_BYTES], process: u8) -> bool
     0 < size_at(host, process)
 }
 
-// The position of the sleeper of a process; the number of the sleepers if it is awake.
-fn position(host: &[u8; HOST_BYTES], process: u8) -> usize
+// The position of the sleeper of a process, if it sleeps.
+fn position(host: &[u8; HOST_BYTES], process: u8) -> Option<usize>
     requires { QueueHeld (row_in host.now) }
-    ensures { result ≡ position_of process (queue_in (row_in host.now)) }
+    ensures { MatchOption result (asleep process (queue_in (row_in host.now)) ≡ false) (IsPositionOf process (queue_in (row_in host.now))) }
 {
-    let n = asleep_of(host);
-    let mut at = 0;
-    while at < n {
-        if process_at(host, at) == process {
-            break;
-        }
-        at += 1;
-    }
-    at
+    (0..asleep_of(host)).find(|at| process_at(host, *at) == process)
 }
 
 // The sleeper of a process, if it sleeps, is taken out: did it?
@@ -110,12 +100,13 @@ pub fn leave(host: &mut [u8; HOST_BYTES], process: u8) -> bool
     ensures value { result ≡ asleep process (queue_in (row_in host.old)) }
     ensures host_after { row_in host.new ≡ with_queue (row_in host.old) (keep (not_of process) (queue_in (row_in host.old))) }
 {
-    if is_asleep(&*host, process) {
-        let at = position(&*host, process);
-        take_out(host, at);
-        return true;
+    match position(&*host, process) {
+        Some(at) => {
+            take_out(host, at);
+            true
+        }
+        None => false,
     }
-    false
 }
 
 // Whom an event ends without a look: the sleepers of a slot that is removed, or those whose wait is over at a time.
@@ -159,15 +150,15 @@ pub fn end_all(
 {
     let code = code_of(ending);
     let mut woken = 0;
-    let mut i = 0;
-    while i < asleep_of(&*host) {
-        let process = process_at(&*host, i);
+    let mut at = 0;
+    for _ in 0..asleep_of(&*host) {
+        let process = process_at(&*host, at);
         if is_ended(&*host, process, ending) {
-            take_out(&mut *host, i);
+            take_out(&mut *host, at);
             note(&mut *wakings, woken, process, code, None);
             woken += 1;
         } else {
-            i += 1;
+            at += 1;
         }
     }
     woken
