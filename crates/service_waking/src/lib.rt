@@ -29,7 +29,7 @@ use service_table::{apply, differing_mask};
 use wakings::note;
 
 // The looks and the wakings so far.
-#[derive(Clone, Copy)]
+#[derive(Clone, Copy, Default)]
 pub struct Tally {
     pub looks: usize,
     pub woken: usize,
@@ -153,15 +153,13 @@ fn wake_plain(
     requires looks_le_looks_max { start.looks ≤ looks_max }
     ensures { left_in host.new adjustments.new wakings.new result ≡ plainly slot (lent_in host.old adjustments.old wakings.old start.woken) start.looks }
 {
-    let mut looks = start.looks;
-    let mut woken = start.woken;
+    let mut tally = start;
     'rounds: loop {
         let n = asleep_of(&*host);
-        let mut i = 0;
-        while i < n {
+        for i in 0..n {
             let process = process_at(&*host, i);
             if slot_at(&*host, process) == slot {
-                looks += 1;
+                tally.looks += 1;
                 let looked = look(&*host, &*adjustments, i);
                 let outcome = looked.outcome;
                 if finishes(outcome) {
@@ -169,20 +167,16 @@ fn wake_plain(
                         &mut *host,
                         &mut *adjustments,
                         &mut *wakings,
-                        woken,
+                        tally.woken,
                         i,
                         looked,
                     );
-                    woken += 1;
+                    tally.woken += 1;
                     continue 'rounds;
                 }
             }
-            i += 1;
         }
-        return Tally {
-            looks: looks,
-            woken: woken,
-        };
+        return tally;
     }
 }
 
@@ -219,13 +213,11 @@ fn wake_quick(
     requires looks_le_looks_max { start.looks ≤ looks_max }
     ensures { left_in host.new adjustments.new wakings.new result ≡ quickly slot first (lent_in host.old adjustments.old wakings.old start.woken) start.looks }
 {
-    let mut looks = start.looks;
-    let mut woken = start.woken;
+    let mut tally = start;
     let mut marks = first;
     'rounds: loop {
         let n = asleep_of(&*host);
-        let mut i = 0;
-        while i < n {
+        for i in 0..n {
             if marks == 0 {
                 break;
             }
@@ -235,7 +227,7 @@ fn wake_quick(
             if on != 0 {
                 if slot_at(&*host, process) == slot {
                     marks = marks ^ bit;
-                    looks += 1;
+                    tally.looks += 1;
                     let looked = look(&*host, &*adjustments, i);
                     let outcome = looked.outcome;
                     if finishes(outcome) {
@@ -244,23 +236,19 @@ fn wake_quick(
                             &mut *host,
                             &mut *adjustments,
                             &mut *wakings,
-                            woken,
+                            tally.woken,
                             i,
                             looked,
                         );
-                        woken += 1;
+                        tally.woken += 1;
                         let touched = differing_mask(before, values_of(&*host, slot));
                         marks = mark_touched(&*host, slot, touched, marks);
                         continue 'rounds;
                     }
                 }
             }
-            i += 1;
         }
-        return Tally {
-            looks: looks,
-            woken: woken,
-        };
+        return tally;
     }
 }
 
@@ -303,9 +291,8 @@ pub fn wake_all(
     requires touched_len { length touched ≡ slots }
     ensures { left_in host.new adjustments.new wakings.new result ≡ treated_from engine 0 touched (lent_in host.old adjustments.old wakings.old 0) 0 }
 {
-    let mut tally = Tally { looks: 0, woken: 0 };
-    let mut slot = 0;
-    while slot < SETS {
+    let mut tally = Tally::default();
+    for (slot, mask) in touched.iter().enumerate() {
         let set = set_at(&*host, slot);
         if 0 < set.count {
             tally = wake(
@@ -314,11 +301,10 @@ pub fn wake_all(
                 &mut *wakings,
                 engine,
                 slot,
-                touched[slot],
+                *mask,
                 tally,
             );
         }
-        slot += 1;
     }
     tally
 }

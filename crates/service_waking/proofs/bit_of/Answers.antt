@@ -1,6 +1,5 @@
 use Prim.Native.Nat.{◌-◌}
 use native.Mathlib.Omega.{arith}
-use borrow.Author.Rules.{rules}
 use Rattle.service_waking.proofs.ByProcess.{shifted}
 use Rattle.service_waking.proofs.bit_of.Goals as goal
 

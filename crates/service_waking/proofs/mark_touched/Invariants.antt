@@ -1,11 +1,6 @@
-use Prim.Native.Nat.{◌-◌}
-use Rattle.model.specs.Limits.{processes}
 use Rattle.host.specs.Parts.{row_in}
 use Rattle.service_waking.proofs.Marking.{Marking}
 use Rattle.service_waking.proofs.mark_touched.Given as goal
 
 abbrev pub invariant-loop-n : goal.invariant-loop-n
 invariant-loop-n l = Marking (row_in l.host) l.slot l.touched l.marks l.m l.n
-
-abbrev pub decreases-loop-n : goal.decreases-loop-n
-decreases-loop-n l = processes - l.n

@@ -17,21 +17,21 @@ use Rattle.service_waking.proofs.wake_plain.Goals.{After-finish, else-slot_at-sl
 next : (c : After-finish) →
     let o = c.rounds in
     let f = c.finish.new in
-    let x = lent_in o.host o.adjustments o.wakings o.woken in
-    let y = lent_in f.host f.adjustments f.wakings (o.woken + 1) in
-    Begun c.args.start.looks y (c.loop-i.looks + 1) × (asleep_in (row_in f.host) < asleep_in (row_in o.host)) × (plainly c.args.slot y (c.loop-i.looks + 1) ≡ plainly c.args.slot x o.looks)
+    let x = lent_in o.host o.adjustments o.wakings o.tally.woken in
+    let y = lent_in f.host f.adjustments f.wakings (o.tally.woken + 1) in
+    Begun c.args.start.looks y (c.loop-i.tally.looks + 1) × (asleep_in (row_in f.host) < asleep_in (row_in o.host)) × (plainly c.args.slot y (c.loop-i.tally.looks + 1) ≡ plainly c.args.slot x o.tally.looks)
 next c =
     let o = c.rounds in
     let l = c.loop-i in
     let f = c.finish.new in
-    let x = lent_in o.host o.adjustments o.wakings o.woken in
+    let x = lent_in o.host o.adjustments o.wakings o.tally.woken in
     let r = o.invariant.0.ready in
     let h : l.i < asleep_in (row_in o.host) = rw c.asleep_of-n.ensures at c.loop-i-test.true in
     let s : c.slot_at.result ≡ get_or (row_in o.host sleeps_at) (entry (get_or (row_in o.host order) l.i 0)) 0 = rw (c.process_at-process.ensures, l.invariant.0) at c.slot_at.ensures in
     let j : JudgedAs (world_in x).table (get_or (world_in x).queue l.i no_sleeper) c.look-looked.result.outcome c.look-looked.result.position (record { values = c.look-looked.result.values; adjustments = c.look-looked.result.undo }) =
     judged_in x l.i (rw (l.invariant.0, l.invariant.1) at c.look-looked.ensures) in
-    let q : lent_in f.host f.adjustments f.wakings (o.woken + 1) ≡ lent_with x (finish (world_in x) l.i) = rw (l.invariant.0, l.invariant.1, l.invariant.2, l.invariant.3) at c.finish.ensures in
-    let n = plain_again_here _ x r o.looks l.i l.looks l.invariant.4 h (sym s ∙ c.if-slot_at-slot.true) j _ o.invariant.0 (sym c.finishes.ensures ∙ c.if-finishes.true) q in
+    let q : lent_in f.host f.adjustments f.wakings (o.tally.woken + 1) ≡ lent_with x (finish (world_in x) l.i) = rw (l.invariant.0, l.invariant.1, l.invariant.2, l.invariant.3) at c.finish.ensures in
+    let n = plain_again_here _ x r o.tally.looks l.i l.tally.looks l.invariant.4 h (sym s ∙ c.if-slot_at-slot.true) j _ o.invariant.0 (sym c.finishes.ensures ∙ c.if-finishes.true) q in
     (n.begins, n.fewer, n.same)
 
 pub rounds-init : goal.rounds-init
@@ -41,14 +41,14 @@ pub look-looked-requires : goal.look-looked-requires
 look-looked-requires c =
     let o = c.rounds in
     let l = c.loop-i in
-    let x = lent_in o.host o.adjustments o.wakings o.woken in
+    let x = lent_in o.host o.adjustments o.wakings o.tally.woken in
     rw (l.invariant.0, l.invariant.1) (settleable x o.invariant.0.ready l.i (within x o.invariant.0.ready l.i (rw c.asleep_of-n.ensures at c.loop-i-test.true)))
 
 pub finish-requires : goal.finish-requires
 finish-requires c =
     let o = c.rounds in
     let l = c.loop-i in
-    let x = lent_in o.host o.adjustments o.wakings o.woken in
+    let x = lent_in o.host o.adjustments o.wakings o.tally.woken in
     rw (l.invariant.0, l.invariant.1, l.invariant.2, l.invariant.3)
     (record {
       ready = o.invariant.0.ready;
@@ -57,11 +57,11 @@ finish-requires c =
       judged = judged_in x l.i (rw (l.invariant.0, l.invariant.1) at c.look-looked.ensures);
     })
 
-pub overflow_add-woken : goal.overflow_add-woken
-overflow_add-woken c =
+pub overflow_add-tally-then-finishes : goal.overflow_add-tally-then-finishes
+overflow_add-tally-then-finishes c =
     let o = c.rounds in
     let l = c.loop-i in
-    let x = lent_in o.host o.adjustments o.wakings o.woken in
+    let x = lent_in o.host o.adjustments o.wakings o.tally.woken in
     record { fits = omega (arith, l.invariant.3, woken_few x o.invariant.0.ready l.i (rw c.asleep_of-n.ensures at c.loop-i-test.true)) }
 
 pub rounds-smaller : goal.rounds-smaller
@@ -76,24 +76,19 @@ pub loop-i-preserved : goal.loop-i-preserved
 loop-i-preserved c =
     let o = c.rounds in
     let l = c.loop-i in
-    let x = lent_in o.host o.adjustments o.wakings o.woken in
+    let x = lent_in o.host o.adjustments o.wakings o.tally.woken in
     let r = o.invariant.0.ready in
     let h : l.i < asleep_in (row_in o.host) = rw c.asleep_of-n.ensures at c.loop-i-test.true in
-    let s : c.slot_at.result ≡ get_or (row_in o.host sleeps_at) (entry (get_or (row_in o.host order) l.i 0)) 0 = rw (c.process_at-process.ensures, l.invariant.0) at c.slot_at.ensures in (
-      l.invariant.0,
-      l.invariant.1,
-      l.invariant.2,
-      l.invariant.3,
-      elim c.if-slot_at-slot.branch [
-        | then-slot_at-slot+else-finishes w ↦ rw w.looks-is (plain_goes_on _ x r o.looks l.i l.looks l.invariant.4 h (sym s ∙ w.if-slot_at-slot.true) (judged_in x l.i (rw (l.invariant.0, l.invariant.1) at w.look-looked.ensures)) (sym w.finishes.ensures ∙ w.if-finishes.false))
-        | else-slot_at-slot w ↦ rw w.looks-is (plain_skips _ x r o.looks l.i l.looks l.invariant.4 h (λ e. w.if-slot_at-slot.false (s ∙ e)))
-      ],
-    )
+    let s : c.slot_at.result ≡ get_or (row_in o.host sleeps_at) (entry (get_or (row_in o.host order) l.i 0)) 0 = rw (c.process_at-process.ensures, l.invariant.0) at c.slot_at.ensures in
+    elim c.if-slot_at-slot.branch [
+      | then-slot_at-slot+else-finishes w ↦ rw w.tally-is (l.invariant.0, l.invariant.1, l.invariant.2, l.invariant.3, plain_goes_on _ x r o.tally.looks l.i l.tally.looks l.invariant.4 h (sym s ∙ w.if-slot_at-slot.true) (judged_in x l.i (rw (l.invariant.0, l.invariant.1) at w.look-looked.ensures)) (sym w.finishes.ensures ∙ w.if-finishes.false))
+      | else-slot_at-slot w ↦ rw w.tally-is (l.invariant.0, l.invariant.1, l.invariant.2, l.invariant.3, plain_skips _ x r o.tally.looks l.i l.tally.looks l.invariant.4 h (λ e. w.if-slot_at-slot.false (s ∙ e)))
+    ]
 
 pub returns-in-rounds : goal.returns-in-rounds
 returns-in-rounds c =
     let o = c.rounds in
     let l = c.loop-i in
-    let x = lent_in o.host o.adjustments o.wakings o.woken in
+    let x = lent_in o.host o.adjustments o.wakings o.tally.woken in
     rw (l.invariant.0, l.invariant.1, l.invariant.2, l.invariant.3)
-    (plain_done _ x o.invariant.0.ready o.looks l.i l.looks l.invariant.4 (rw c.asleep_of-n.ensures at c.loop-i-test.false) ∙ o.invariant.1)
+    (plain_done _ x o.invariant.0.ready o.tally.looks l.i l.tally.looks l.invariant.4 (rw c.asleep_of-n.ensures at c.loop-i-test.false) ∙ o.invariant.1)

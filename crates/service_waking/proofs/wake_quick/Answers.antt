@@ -43,25 +43,25 @@ looked-at {x} e i {o} {n} {k} j = judged_in x i (subst (λ (y : Lent). JudgedAs 
 next : (c : After-mark_touched-marks) →
     let o = c.rounds in
     let f = c.finish.new in
-    let x = lent_in o.host o.adjustments o.wakings o.woken in
-    let y = lent_in f.host f.adjustments f.wakings (o.woken + 1) in
-    Begun c.args.start.looks y (c.loop-i.looks + 1) × (asleep_in (row_in f.host) < asleep_in (row_in o.host))
-    × (quickly c.args.slot c.mark_touched-marks.result y (c.loop-i.looks + 1) ≡ quickly c.args.slot o.marks x o.looks)
+    let x = lent_in o.host o.adjustments o.wakings o.tally.woken in
+    let y = lent_in f.host f.adjustments f.wakings (o.tally.woken + 1) in
+    Begun c.args.start.looks y (c.loop-i.tally.looks + 1) × (asleep_in (row_in f.host) < asleep_in (row_in o.host))
+    × (quickly c.args.slot c.mark_touched-marks.result y (c.loop-i.tally.looks + 1) ≡ quickly c.args.slot o.marks x o.tally.looks)
 next c =
     let o = c.rounds in
     let l = c.loop-i in
     let f = c.finish.new in
-    let x = lent_in o.host o.adjustments o.wakings o.woken in
+    let x = lent_in o.host o.adjustments o.wakings o.tally.woken in
     let r = o.invariant.0.ready in
     let k = c.look-looked.result in
     let h : l.i < asleep_in (row_in o.host) = rw c.asleep_of-n.ensures at c.loop-i-test.true in
-    let e : lent_in l.host l.adjustments l.wakings l.woken ≡ x = same l.invariant.0 l.invariant.1 l.invariant.2 l.invariant.3 in
+    let e : lent_in l.host l.adjustments l.wakings l.tally.woken ≡ x = same l.invariant.0 l.invariant.1 l.invariant.2 l.invariant.3 in
     let p : c.process_at-process.result ≡ get_or (row_in o.host order) l.i 0 = rw l.invariant.0 at c.process_at-process.ensures in
     let s : c.slot_at.result ≡ get_or (row_in o.host sleeps_at) (entry (get_or (row_in o.host order) l.i 0)) 0 = read-slot l.i l.invariant.0 p c.slot_at.ensures in
     let j : JudgedAs (world_in x).table (get_or (world_in x).queue l.i no_sleeper) k.outcome k.position (record { values = k.values; adjustments = k.undo }) = looked-at e l.i c.look-looked.ensures in
-    let q : lent_in f.host f.adjustments f.wakings (o.woken + 1) ≡ lent_with x (finish (world_in x) l.i) =
+    let q : lent_in f.host f.adjustments f.wakings (o.tally.woken + 1) ≡ lent_with x (finish (world_in x) l.i) =
     ap (λ (n : ℕ). lent_in f.host f.adjustments f.wakings (n + 1)) (sym l.invariant.3) ∙ c.finish.ensures ∙ ap (λ (y : Lent). lent_with y (finish (world_in y) l.i)) e in
-    let n = quick_again_here c.args.slot x r o.looks o.marks l.i l.looks l.marks l.invariant.4 h c.bit_of-bit.result (rw p at c.bit_of-bit.ensures) c.if-on-ne0.true (sym s ∙ c.if-slot_at-slot.true) j
+    let n = quick_again_here c.args.slot x r o.tally.looks o.marks l.i l.tally.looks l.marks l.invariant.4 h c.bit_of-bit.result (rw p at c.bit_of-bit.ensures) c.if-on-ne0.true (sym s ∙ c.if-slot_at-slot.true) j
     _ o.invariant.0 (sym c.finishes.ensures ∙ c.if-finishes.true) q
     c.values_of-before.result c.values_of.result
     (c.values_of-before.ensures ∙ ap (λ (g : List ℕ). from 0 semaphores (row c.args.slot) (row_in g values)) l.invariant.0 ∙ values_in_lem o.host o.adjustments c.args.slot c.requires.slot)
@@ -77,13 +77,13 @@ bit_of-bit-requires c =
     let o = c.rounds in
     let l = c.loop-i in
     let p : c.process_at-process.result ≡ get_or (row_in o.host order) l.i 0 = rw l.invariant.0 at c.process_at-process.ensures in
-    rw p (is_process (lent_in o.host o.adjustments o.wakings o.woken) o.invariant.0.ready l.i (rw c.asleep_of-n.ensures at c.loop-i-test.true))
+    rw p (is_process (lent_in o.host o.adjustments o.wakings o.tally.woken) o.invariant.0.ready l.i (rw c.asleep_of-n.ensures at c.loop-i-test.true))
 
 pub look-looked-requires : goal.look-looked-requires
 look-looked-requires c =
     let o = c.rounds in
     let l = c.loop-i in
-    let x = lent_in o.host o.adjustments o.wakings o.woken in
+    let x = lent_in o.host o.adjustments o.wakings o.tally.woken in
     let r = o.invariant.0.ready in
     subst⁻¹ (λ (y : Lent). Settleable y.host l.i) (same l.invariant.0 l.invariant.1 l.invariant.2 l.invariant.3)
     (settleable x r l.i (within x r l.i (rw c.asleep_of-n.ensures at c.loop-i-test.true)))
@@ -93,9 +93,9 @@ finish-requires c =
     let o = c.rounds in
     let l = c.loop-i in
     let k = c.look-looked.result in
-    let x = lent_in o.host o.adjustments o.wakings o.woken in
+    let x = lent_in o.host o.adjustments o.wakings o.tally.woken in
     let r = o.invariant.0.ready in
-    let e : lent_in l.host l.adjustments l.wakings l.woken ≡ x = same l.invariant.0 l.invariant.1 l.invariant.2 l.invariant.3 in
+    let e : lent_in l.host l.adjustments l.wakings l.tally.woken ≡ x = same l.invariant.0 l.invariant.1 l.invariant.2 l.invariant.3 in
     subst⁻¹ (λ (y : Lent). Finishable y l.i k.outcome k.position (record { values = k.values; adjustments = k.undo })) e
     (record {
       ready = r;
@@ -104,11 +104,11 @@ finish-requires c =
       judged = looked-at e l.i c.look-looked.ensures;
     })
 
-pub overflow_add-woken : goal.overflow_add-woken
-overflow_add-woken c =
+pub overflow_add-tally-then-finishes : goal.overflow_add-tally-then-finishes
+overflow_add-tally-then-finishes c =
     let o = c.rounds in
     let l = c.loop-i in
-    let x = lent_in o.host o.adjustments o.wakings o.woken in
+    let x = lent_in o.host o.adjustments o.wakings o.tally.woken in
     record { fits = omega (arith, l.invariant.3, woken_few x o.invariant.0.ready l.i (rw c.asleep_of-n.ensures at c.loop-i-test.true)) }
 
 pub mark_touched-marks-requires : goal.mark_touched-marks-requires
@@ -116,14 +116,14 @@ mark_touched-marks-requires c =
     let o = c.rounds in
     let l = c.loop-i in
     let f = c.finish.new in
-    let x = lent_in o.host o.adjustments o.wakings o.woken in
+    let x = lent_in o.host o.adjustments o.wakings o.tally.woken in
     let h : l.i < asleep_in (row_in o.host) = rw c.asleep_of-n.ensures at c.loop-i-test.true in
-    let e : lent_in l.host l.adjustments l.wakings l.woken ≡ x = same l.invariant.0 l.invariant.1 l.invariant.2 l.invariant.3 in
-    let q : lent_in f.host f.adjustments f.wakings (l.woken + 1) ≡ lent_with x (finish (world_in x) l.i) = c.finish.ensures ∙ ap (λ (y : Lent). lent_with y (finish (world_in y) l.i)) e in
+    let e : lent_in l.host l.adjustments l.wakings l.tally.woken ≡ x = same l.invariant.0 l.invariant.1 l.invariant.2 l.invariant.3 in
+    let q : lent_in f.host f.adjustments f.wakings (l.tally.woken + 1) ≡ lent_with x (finish (world_in x) l.i) = c.finish.ensures ∙ ap (λ (y : Lent). lent_with y (finish (world_in y) l.i)) e in
     record {
       slot = c.requires.slot;
       queue_held = subst (λ (y : Lent). QueueHeld y.host.row) (sym q)
-          (ready_row _ (begun_next _ x o.looks l.i (l.looks + 1) o.invariant.0 h (omega (arith, l.invariant.4.looks, h, asleep_few x o.invariant.0.ready))).ready);
+          (ready_row _ (begun_next _ x o.tally.looks l.i (l.tally.looks + 1) o.invariant.0 h (omega (arith, l.invariant.4.looks, h, asleep_few x o.invariant.0.ready))).ready);
     }
 
 pub rounds-smaller : goal.rounds-smaller
@@ -138,36 +138,30 @@ pub loop-i-preserved : goal.loop-i-preserved
 loop-i-preserved c =
     let o = c.rounds in
     let l = c.loop-i in
-    let x = lent_in o.host o.adjustments o.wakings o.woken in
+    let x = lent_in o.host o.adjustments o.wakings o.tally.woken in
     let r = o.invariant.0.ready in
     let h : l.i < asleep_in (row_in o.host) = rw c.asleep_of-n.ensures at c.loop-i-test.true in
-    let e : lent_in l.host l.adjustments l.wakings l.woken ≡ x = same l.invariant.0 l.invariant.1 l.invariant.2 l.invariant.3 in
+    let e : lent_in l.host l.adjustments l.wakings l.tally.woken ≡ x = same l.invariant.0 l.invariant.1 l.invariant.2 l.invariant.3 in
     let p : c.process_at-process.result ≡ get_or (row_in o.host order) l.i 0 = rw l.invariant.0 at c.process_at-process.ensures in
-    let b : c.bit_of-bit.result ≡ bit_of (get_or (row_in o.host order) l.i 0) = rw p at c.bit_of-bit.ensures in (
-      l.invariant.0,
-      l.invariant.1,
-      l.invariant.2,
-      l.invariant.3,
-      elim c.if-on-ne0.branch [
-        | then-on-ne0+then-slot_at-slot+else-finishes w ↦ rw (w.looks-is, w.marks-is) (quick_goes_on _ x r o.looks o.marks l.i l.looks l.marks l.invariant.4 h c.bit_of-bit.result b w.if-on-ne0.true (sym (read-slot l.i l.invariant.0 p w.slot_at.ensures) ∙ w.if-slot_at-slot.true) (looked-at e l.i w.look-looked.ensures) (sym w.finishes.ensures ∙ w.if-finishes.false))
-        | then-on-ne0+else-slot_at-slot w ↦ rw (w.looks-is, w.marks-is) (quick_skips _ x r o.looks o.marks l.i l.looks l.marks l.invariant.4 h (λ z. w.if-slot_at-slot.false (read-slot l.i l.invariant.0 p w.slot_at.ensures ∙ z)))
-        | else-on-ne0 w ↦ rw (w.looks-is, w.marks-is) (quick_passes _ x r o.looks o.marks l.i l.looks l.marks l.invariant.4 h c.bit_of-bit.result b w.if-on-ne0.false)
-      ],
-    )
+    let b : c.bit_of-bit.result ≡ bit_of (get_or (row_in o.host order) l.i 0) = rw p at c.bit_of-bit.ensures in
+    elim c.if-on-ne0.branch [
+      | then-on-ne0+then-slot_at-slot+else-finishes w ↦ rw (w.tally-is, w.marks-is) (l.invariant.0, l.invariant.1, l.invariant.2, l.invariant.3, quick_goes_on _ x r o.tally.looks o.marks l.i l.tally.looks l.marks l.invariant.4 h c.bit_of-bit.result b w.if-on-ne0.true (sym (read-slot l.i l.invariant.0 p w.slot_at.ensures) ∙ w.if-slot_at-slot.true) (looked-at e l.i w.look-looked.ensures) (sym w.finishes.ensures ∙ w.if-finishes.false))
+      | then-on-ne0+else-slot_at-slot w ↦ rw (w.tally-is, w.marks-is) (l.invariant.0, l.invariant.1, l.invariant.2, l.invariant.3, quick_skips _ x r o.tally.looks o.marks l.i l.tally.looks l.marks l.invariant.4 h (λ z. w.if-slot_at-slot.false (read-slot l.i l.invariant.0 p w.slot_at.ensures ∙ z)))
+      | else-on-ne0 w ↦ rw (w.tally-is, w.marks-is) (l.invariant.0, l.invariant.1, l.invariant.2, l.invariant.3, quick_passes _ x r o.tally.looks o.marks l.i l.tally.looks l.marks l.invariant.4 h c.bit_of-bit.result b w.if-on-ne0.false)
+    ]
 
--- the end: the round has come to the last sleeper, or no mark is left
 pub returns-after-loop-i : goal.returns-after-loop-i
 returns-after-loop-i c =
     let o = c.rounds in
     let l = c.loop-i in
-    ap (λ (y : Lent). record { lent = y; looks = l.looks }) (same l.invariant.0 l.invariant.1 l.invariant.2 l.invariant.3)
-    ∙ quick_done _ (lent_in o.host o.adjustments o.wakings o.woken) o.invariant.0.ready o.looks o.marks l.i l.looks l.marks l.invariant.4 (rw c.asleep_of-n.ensures at c.loop-i-test.false)
+    ap (λ (y : Lent). record { lent = y; looks = l.tally.looks }) (same l.invariant.0 l.invariant.1 l.invariant.2 l.invariant.3)
+    ∙ quick_done _ (lent_in o.host o.adjustments o.wakings o.tally.woken) o.invariant.0.ready o.tally.looks o.marks l.i l.tally.looks l.marks l.invariant.4 (rw c.asleep_of-n.ensures at c.loop-i-test.false)
     ∙ o.invariant.1
 
 pub returns-then-marks-eq0 : goal.returns-then-marks-eq0
 returns-then-marks-eq0 c =
     let o = c.rounds in
     let l = c.loop-i in
-    ap (λ (y : Lent). record { lent = y; looks = l.looks }) (same l.invariant.0 l.invariant.1 l.invariant.2 l.invariant.3)
-    ∙ quick_spent _ (lent_in o.host o.adjustments o.wakings o.woken) o.invariant.0.ready o.looks o.marks l.i l.looks l.marks l.invariant.4 c.if-marks-eq0.true
+    ap (λ (y : Lent). record { lent = y; looks = l.tally.looks }) (same l.invariant.0 l.invariant.1 l.invariant.2 l.invariant.3)
+    ∙ quick_spent _ (lent_in o.host o.adjustments o.wakings o.tally.woken) o.invariant.0.ready o.tally.looks o.marks l.i l.tally.looks l.marks l.invariant.4 c.if-marks-eq0.true
     ∙ o.invariant.1
