@@ -1,7 +1,6 @@
 -- A whole set: the counts of its masks, and each number as a query of its semaphore shows it.
-use Rattle.std.proofs.Common.{◌≡◌, ℕ, zero, suc, ◌+◌, ◌<◌, ◌≤◌, Bool, List, ◌∷◌, map, get_or, set, ℤ, pos, sym, refl, ap, ◌∙◌, add-zero, arith}
+use Rattle.std.proofs.Common.{◌≡◌, ℕ, zero, suc, ◌+◌, ◌<◌, Bool, List, ◌∷◌, get_or, ℤ, pos, sym, refl, ap, ◌∙◌, add-zero, arith}
 use lib.Count.{ones}
-use lib.ListN.{get_or-map}
 use Rattle.model.specs.declared.QueriedSet.{QueriedSet}
 use Rattle.model.specs.declared.Set.{Set}
 use Rattle.model.specs.Limits.{slots, semaphores}
@@ -18,7 +17,6 @@ use Rattle.model.proofs.WholeSetLaws.{each_at, each_long, each_is}
 use Rattle.host.specs.Parts.{values, lasts}
 use Rattle.host.specs.Rows.{from}
 use Rattle.host.specs.Holding.{Host, set_at, queue_in, table_in, state_in, Held}
-use Rattle.host.proofs.RowLaws.{Reading, read_more, read_all}
 use Rattle.host.proofs.SetRows.{set_in}
 use Rattle.service.specs.declared.waiting.Waiters.{Waiters}
 use Rattle.service.specs.Waiting.{waiters_of}
@@ -37,23 +35,6 @@ from_all l at = ap (λ (m : ℕ). from 0 semaphores m l) (sym (add-zero at)) ∙
 
 each_same : (f g : ℕ → ℕ) → ((n : ℕ) → n < semaphores → f n ≡ g n) → each f ≡ each g
 each_same f g h = each_is g (each f) (each_long f 0 semaphores) (λ n l. each_at f n l ∙ h n l)
-
--- ---- the counts of masks, one after the other
-
-module _ (masks : List ℕ) where
-  count_at_lem : (n : ℕ) → get_or (map ones masks) (0 + n) 0 ≡ ones (get_or masks n 0)
-  unfolding ones
-  count_at_lem n = let e : 0 + n ≡ n = omega arith in rw e (get_or-map ones masks n 0)
-
-  -- the loop: the first n are counted
-  abbrev pub Counting : List ℕ → ℕ → Type 0
-  Counting counts n = Reading 0 semaphores 0 (map ones masks) counts n
-
-  pub counted_more : {counts : List ℕ} {n : ℕ} → Counting counts n → n < semaphores → Counting (set counts n (ones (get_or masks n 0))) (n + 1)
-  counted_more {n = n} w l = read_more _ w l (sym (count_at_lem n))
-
-  pub counted_all : {counts : List ℕ} {n : ℕ} → Counting counts n → semaphores ≤ n → counts ≡ each (λ (j : ℕ). ones (get_or masks j 0))
-  counted_all w l = read_all w l ∙ from_all (map ones masks) 0 ∙ each_same _ _ (λ n h. count_at_lem n)
 
 -- ---- what is shown
 

@@ -62,5 +62,5 @@ fn told(tally: Tally) -> Told
 fn nobody() -> Tally
     ensures { (result.looks ≡ 0) × (result.woken ≡ 0) }
 {
-    Tally { looks: 0, woken: 0 }
+    Tally::default()
 }

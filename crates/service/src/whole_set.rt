@@ -13,12 +13,7 @@ use service_checks::check_access;
 fn ones_of(masks: [u8; SEMAPHORES]) -> [u32; SEMAPHORES]
     ensures { result ≡ each (λ (n : ℕ). count_ones (slice_index masks n)) }
 {
-    let mut counts = [0u32; SEMAPHORES];
-    for n in 0..SEMAPHORES {
-        let mask = masks[n];
-        counts[n] = u8::count_ones(mask);
-    }
-    counts
+    masks.map(|mask| mask.count_ones())
 }
 
 // Refused: zeros after the code.

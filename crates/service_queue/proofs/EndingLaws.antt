@@ -50,6 +50,21 @@ module _ (test : Sleeper → Bool) (q : List Sleeper) (i : ℕ) (h : i < length 
   unfolding ended_with
   ended_leaves code e = rw (drop_without, drop-cons q i no_sleeper h, ended_with, e)
 
+-- ---- a row after the sleeper at a position is taken out
+
+module _ {r : Row} (k : QueueHeld r) {i : ℕ} (h : i < length (queue_in r)) {r' : Row} (er : r' ≡ with_queue r (without (queue_in r) i)) where
+  fits : Queued (without (queue_in r) i)
+  fits = queued_without (queue_in r) i h k.fits
+
+  now_without : queue_in r' ≡ without (queue_in r) i
+  now_without = shows r er fits
+
+  pub held_without : QueueHeld r'
+  held_without = row_with r er fits
+
+  pub one_less : length (queue_in r') + 1 ≡ length (queue_in r)
+  one_less = ap (λ (q : List Sleeper). length q + 1) now_without ∙ length_without (queue_in r) i h
+
 -- ---- a queue whose first i stay, and those ended so far
 
 module _ (code : ℤ) (test : Sleeper → Bool) where
@@ -115,9 +130,6 @@ module _ (code : ℤ) (test : Sleeper → Bool) where
     pub counted_all : length (queue_in r) ≤ i → woken ≡ length (ended_with code test (queue_in r₀))
     counted_all l = v.count ∙ ap length (told_all v.passed l)
 
-    pub woken_few : woken + length (queue_in r) ≤ processes
-    woken_few = omega (arith, v.count, v.passed.room)
-
     module _ (h : i < length (queue_in r)) {p : ℕ} (ep : p ≡ get_or (r order) i 0) where
       -- the test of the sleeper that the process has in the row
       here_too : {b : Bool} → test (sleeper_in r p) ≡ b → test (get_or (queue_in r) i no_sleeper) ≡ b
@@ -135,14 +147,8 @@ module _ (code : ℤ) (test : Sleeper → Bool) where
           }
 
       module _ {r' : Row} (er : r' ≡ with_queue r (without (queue_in r) i)) where
-        fits : Queued (without (queue_in r) i)
-        fits = queued_without (queue_in r) i h v.holding.fits
-
         now : queue_in r' ≡ without (queue_in r) i
-        now = shows r er fits
-
-        pub one_less : length (queue_in r') + 1 ≡ length (queue_in r)
-        one_less = ap (λ (q : List Sleeper). length q + 1) now ∙ length_without (queue_in r) i h
+        now = now_without v.holding h er
 
         pub ended_one : {wakings' : List Place} → test (sleeper_in r p) ≡ true → wakings' ≡ set wakings woken (place_of (waking p code None)) → Ended r₀ r' wakings' (woken + 1) i
         ended_one {wakings'} e ew =
@@ -150,7 +156,7 @@ module _ (code : ℤ) (test : Sleeper → Bool) where
             let w : Waking = waking s.process code None in
             let here : waking p code None ≡ w = ap (λ (n : ℕ). waking n code None) (ep ∙ process_is v.holding i h) in
             record {
-              holding = row_with r er fits;
+              holding = held_without v.holding h er;
               same = er ∙ ap (λ (x : Row). with_queue x (without (queue_in r) i)) v.same ∙ queue_again r₀ (queue_in r) (without (queue_in r) i) ∙ ap (with_queue r₀) (sym now);
               ended = v.ended ++ w ∷ [];
               listed = ew ∙ ap₂ (λ (l : List Place) (k : ℕ). set l k (place_of (waking p code None))) v.listed v.count ∙ ap (λ (x : Waking). set (list_of v.ended) (length v.ended) (place_of x)) here ∙ noted v.ended w (omega (arith, v.passed.room));

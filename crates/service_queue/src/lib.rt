@@ -1,7 +1,7 @@
 // A part of the service: the queue of the sleepers, in the host's row.
 #![tactic(auto)]
 
-ghost use Rattle.std.specs.Prelude.{◌≡◌, ◌≢◌, false, [], ◌∷◌, ◌++◌, ◌<◌, ◌≤◌, pos, length, MatchOption};
+ghost use Rattle.std.specs.Prelude.{◌≡◌, ◌≢◌, Bool, false, [], ◌∷◌, ◌++◌, ◌<◌, ◌≤◌, pos, length, MatchOption};
 ghost use Rattle.model.specs.Limits.{processes};
 ghost use Rattle.model.specs.State.{Sleeper};
 ghost use Rattle.model.specs.Operation.{operations_of};
@@ -15,7 +15,7 @@ ghost use Rattle.host.specs.Holding.{time_in, with_queue, sleeper_in, queue_in};
 ghost use Rattle.host.specs.Queue.{Room, QueueHeld};
 ghost use Rattle.wakings.specs.Wakings.{places_in, list_of};
 ghost use Rattle.service_queue.specs.Seated.{Seated, IsPositionOf, moved_up};
-ghost use Rattle.service_queue.specs.Ended.{ended_by, spared_by, code_by};
+ghost use Rattle.service_queue.specs.Ended.{Tells, EndedAll};
 
 use host::{
     HOST_BYTES, asleep_of, clear_array, is_due, process_at, put_asleep, put_call, put_process,
@@ -109,51 +109,24 @@ pub fn leave(host: &mut [u8; HOST_BYTES], process: u8) -> bool
     }
 }
 
-// Whom an event ends without a look: the sleepers of a slot that is removed, or those whose wait is over at a time.
-#[derive(Clone, Copy)]
-pub enum Ending {
-    Removal(usize),
-    Expiry(u64),
-}
-
-// The code that they end with.
-fn code_of(ending: Ending) -> u8
-    ensures { pos result ≡ code_by ending }
-{
-    match ending {
-        Ending::Removal(_) => 43,
-        Ending::Expiry(_) => 11,
-    }
-}
-
-// Is the sleeper of a process one of them?
-fn is_ended(host: &[u8; HOST_BYTES], process: u8, ending: Ending) -> bool
-    ensures { result ≡ ended_by ending (sleeper_in (row_in host.now) process) }
-{
-    match ending {
-        Ending::Removal(slot) => slot_at(host, process) == slot,
-        Ending::Expiry(time) => is_due(host, process, time),
-    }
-}
-
-// Ends them, oldest first, and takes them out. The answer is how many there were.
-pub fn end_all(
+// Ends the sleepers for whose processes the test holds with a code, oldest first, and takes them out: as a removal ends those of
+// its slot, and the clock those whose wait is over. The answer is how many there were.
+pub fn end_all<F: Fn(&[u8; HOST_BYTES], u8) -> bool>(
     host: &mut [u8; HOST_BYTES],
     wakings: &mut [u8; WAKING_BYTES],
-    ending: Ending,
+    code: u8,
+    ended: F,
 ) -> usize
+    requires callable { F.IsAlwaysCallable ended }
     requires queue_held { QueueHeld (row_in host.old) }
     requires wakings_value { places_in wakings.old ≡ list_of [] }
-    ensures host_after { row_in host.new ≡ with_queue (row_in host.old) (keep (spared_by ending) (queue_in (row_in host.old))) }
-    ensures wakings_after { places_in wakings.new ≡ list_of (ended_with (code_by ending) (ended_by ending) (queue_in (row_in host.old))) }
-    ensures value { result ≡ length (ended_with (code_by ending) (ended_by ending) (queue_in (row_in host.old))) }
+    ensures { (test : Sleeper → Bool) → Tells F.Fn ended test → EndedAll test (pos code) (row_in host.old) (row_in host.new) (places_in wakings.new) result }
 {
-    let code = code_of(ending);
     let mut woken = 0;
     let mut at = 0;
     for _ in 0..asleep_of(&*host) {
         let process = process_at(&*host, at);
-        if is_ended(&*host, process, ending) {
+        if ended(&*host, process) {
             take_out(&mut *host, at);
             note(&mut *wakings, woken, process, code, None);
             woken += 1;

@@ -5,10 +5,10 @@ ghost use Rattle.host.specs.Holding.{Held, host_in, state_in};
 ghost use Rattle.service.specs.After.{after_in, after_of};
 
 use crate::events::{quiet, told};
-use host::{HOST_BYTES, put_time};
+use host::{HOST_BYTES, is_due, put_time};
 use model::{ALL_ADJUSTMENTS, Told, WAKING_BYTES};
 use service_checks::check_clock;
-use service_queue::{Ending, end_all};
+use service_queue::end_all;
 use service_waking::Tally;
 use wakings::clear;
 
@@ -28,7 +28,12 @@ pub fn clock(
         return quiet(code, 0);
     }
     put_time(&mut *host, time);
-    let woken = end_all(host, wakings, Ending::Expiry(time));
+    let woken = end_all(
+        host,
+        wakings,
+        11,
+        |host, process| is_due(host, process, time),
+    );
     told(Tally {
         looks: 0,
         woken: woken,

@@ -30,9 +30,8 @@ fn undo_all(
     ensures value { result ≡ touched_from slots 0 (table_in (host_in host.old adjustments.old)) (exited (table_in (host_in host.old adjustments.old)) process) }
 {
     let mut touched = [0u8; SETS];
-    for slot in 0..SETS {
-        let mask = undo_slot(&mut *host, &mut *adjustments, process, slot);
-        touched[slot] = mask;
+    for (slot, mask) in touched.iter_mut().enumerate() {
+        *mask = undo_slot(&mut *host, &mut *adjustments, process, slot);
     }
     touched
 }

@@ -5,11 +5,11 @@ ghost use Rattle.host.specs.Holding.{Held, host_in, state_in};
 ghost use Rattle.service.specs.After.{after_in, after_of};
 
 use crate::events::{quiet, told};
-use host::{HOST_BYTES, put_set, set_at};
+use host::{HOST_BYTES, put_set, set_at, slot_at};
 use judging::slot_of;
 use model::{ALL_ADJUSTMENTS, Set, Told, WAKING_BYTES};
 use service_checks::check_remove;
-use service_queue::{Ending, end_all};
+use service_queue::end_all;
 use service_table::clear_slot;
 use service_waking::Tally;
 use std::num::wrapping_add_u16;
@@ -41,7 +41,12 @@ pub fn remove(
     };
     put_set(&mut *host, slot, set);
     clear_slot(&mut *host, adjustments, slot);
-    let woken = end_all(host, wakings, Ending::Removal(slot));
+    let woken = end_all(
+        host,
+        wakings,
+        43,
+        |host, process| slot_at(host, process) == slot,
+    );
     told(Tally {
         looks: 0,
         woken: woken,

@@ -1,12 +1,7 @@
-use Rattle.std.proofs.Common.{◌-◌}
-use Rattle.model.specs.Limits.{slots}
 use Rattle.host.specs.Holding.{host_in}
 use Rattle.service_table.proofs.ExitLaws.{Undoing}
 use Rattle.service.proofs.events.exit.undo_all.Given as goal
 
 -- `service::events::exit::undo_all` meets its contract: the slots before the loop's are done.
 abbrev pub invariant-loop-slot : goal.invariant-loop-slot
-invariant-loop-slot l = Undoing (host_in l.initial.host l.initial.adjustments) l.process l.slot (host_in l.host l.adjustments) l.touched
-
-abbrev pub decreases-loop-slot : goal.decreases-loop-slot
-decreases-loop-slot l = slots - l.slot
+invariant-loop-slot l = Undoing (host_in l.initial.host l.initial.adjustments) l.process l.slot (host_in l.host l.adjustments) l.mask-items
