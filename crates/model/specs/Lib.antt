@@ -1,5 +1,6 @@
 -- The definitions that the promises cite, in the order of the rules.
 pub mod Limits
+pub mod Refusal
 pub mod State
 pub mod Operation
 pub mod Permission

@@ -5,6 +5,9 @@
 // specs/State.antt; the crate `host` says where each number of it lies.
 #![tactic(auto)]
 
+ghost use Rattle.std.specs.Prelude.{◌≡◌, pos};
+ghost use Rattle.model.specs.Refusal.{errno_of};
+
 // The limits. Each has its twin in specs/Limits.antt.
 pub const SETS: usize = 4;
 
@@ -47,6 +50,38 @@ pub const ALL_BYTES: usize = PROCESSES * ARRAY_BYTES;
 pub const ONE_WAKING: usize = 4;
 
 pub const WAKING_BYTES: usize = ONE_WAKING * PROCESSES;
+
+// Why the checks refuse an event, by the error of errno.h that its code stands for.
+#[derive(Clone, Copy, PartialEq, Eq, Debug)]
+pub enum Refusal {
+    // EPERM: only the owner and user 0 may.
+    NotOwner = 1,
+    // ESRCH: no such process.
+    NoProcess = 3,
+    // E2BIG: an array of too many operations.
+    TooLong = 7,
+    // EACCES: the set's mode does not let the caller.
+    NotPermitted = 13,
+    // EBUSY: the process sleeps.
+    Asleep = 16,
+    // EINVAL: no live set, or a number out of bounds.
+    Invalid = 22,
+    // EFBIG: an operation's semaphore number is at or above the set's count.
+    NumberTooHigh = 27,
+    // ENOSPC: no slot is free.
+    NoSlot = 28,
+    // ERANGE: a value that no semaphore may have.
+    OutOfRange = 34,
+}
+
+// The code that an event answers.
+impl From<Refusal> for i32 {
+    ghost from_gives = { λ refusal code. code ≡ pos (errno_of refusal) };
+
+    fn from(refusal: Refusal) -> i32 {
+        refusal as i32
+    }
+}
 
 // A slot. `count` is the number of semaphores, 0 in a free slot; owner and group are its creator's, and the mode has nine
 // permission bits.
