@@ -1,5 +1,6 @@
 // The tests on an array's operations that come before judging, and the semaphores that it names, in one walk.
-ghost use Rattle.std.specs.Prelude.{◌≡◌, cond, not, eqb};
+ghost use Rattle.std.specs.Prelude.{◌≡◌, cond, not, IfOk};
+ghost use Rattle.model.specs.Refusal.{code_in};
 ghost use Rattle.model.specs.Operation.{operations_of, is_zero};
 ghost use Rattle.model.specs.Checks.{check, number_too_high, permitted};
 ghost use Rattle.judging.specs.Named.{named_within};
@@ -7,7 +8,7 @@ ghost use Rattle.judging.specs.Named.{named_within};
 use crate::amount::is_zero;
 use crate::named::number_bit;
 use crate::operation::operation_at;
-use model::OPERATION_BYTES;
+use model::{OPERATION_BYTES, Refusal};
 
 // May one who reads and alters so do an operation of this amount?
 fn may(amount: i16, reads: bool, alters: bool) -> bool
@@ -16,19 +17,11 @@ fn may(amount: i16, reads: bool, alters: bool) -> bool
     if is_zero(amount) { reads } else { alters }
 }
 
-// What the checks of an array come to: the code of the first that applies, 0 if none does; then the semaphores that the array
-// names, as a mask.
-#[derive(Clone, Copy)]
-pub struct Checked {
-    pub code: u8,
-    pub names: u8,
-}
-
 // The checks of the operations, in one walk: 27 for a number at or above the count, else 13 for one who may not do what they need.
-// Who may read and alter needs no look at the amounts.
-pub fn check_array(count: u8, reads: bool, alters: bool, bytes: &[u8]) -> Checked
-    ensures code_value { result.code ≡ check (number_too_high count (operations_of bytes.now)) 27 (check (not (permitted reads alters (operations_of bytes.now))) 13 0) }
-    ensures names_value { result.names ≡ cond (eqb result.code 0) (named_within 0 (operations_of bytes.now)) 0 }
+// Who may read and alter needs no look at the amounts. The answer is the semaphores that the array names, as a mask.
+pub fn check_array(count: u8, reads: bool, alters: bool, bytes: &[u8]) -> Result<u8, Refusal>
+    ensures code_value { code_in result ≡ check (number_too_high count (operations_of bytes.now)) 27 (check (not (permitted reads alters (operations_of bytes.now))) 13 0) }
+    ensures names_value { IfOk result (λ names. names ≡ named_within 0 (operations_of bytes.now)) }
 {
     let both = reads & alters;
     let past = count as u16;
@@ -39,7 +32,7 @@ pub fn check_array(count: u8, reads: bool, alters: bool, bytes: &[u8]) -> Checke
     while i < operations {
         let operation = operation_at(bytes, i * OPERATION_BYTES);
         if past <= operation.number {
-            return Checked { code: 27, names: 0 };
+            return Err(Refusal::NumberTooHigh);
         }
         names = names | number_bit(operation.number);
         if !both {
@@ -48,11 +41,8 @@ pub fn check_array(count: u8, reads: bool, alters: bool, bytes: &[u8]) -> Checke
         i += 1;
     }
     if allowed {
-        Checked {
-            code: 0,
-            names: names,
-        }
+        Ok(names)
     } else {
-        Checked { code: 13, names: 0 }
+        Err(Refusal::NotPermitted)
     }
 }

@@ -18,7 +18,7 @@ mod stop;
 mod walk;
 
 pub use amount::{cut, is_negative};
-pub use checks::{Checked, check_array};
+pub use checks::check_array;
 pub use identifier::{answer, in_range, slot_of, value_of};
 pub use outcome::{decided, finishes};
 pub use permission::{owns, permits};

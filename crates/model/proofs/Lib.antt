@@ -3,6 +3,7 @@
 pub mod Lists
 pub mod Bits
 -- the laws of each file of specs/:
+pub mod RefusalLaws
 pub mod MarkLaws
 pub mod JudgeLaws
 pub mod LookLaws

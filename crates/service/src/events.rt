@@ -1,10 +1,11 @@
 // The eleven events, each in its own file, and what they tell.
 ghost use Rattle.std.specs.Prelude.{◌≡◌, ◌%◌, pos};
+ghost use Rattle.model.specs.Refusal.{errno_of};
 ghost use Rattle.model.specs.Judge.{decided_at};
 ghost use Rattle.service.specs.After.{telling_at, telling};
 
-use judging::{answer, decided};
-use model::{Outcome, Position, Told};
+use judging::decided;
+use model::{Outcome, Position, Refusal, Told};
 use service_waking::Tally;
 
 pub mod act_as;
@@ -19,13 +20,26 @@ pub mod set_all;
 pub mod set_value;
 pub mod signal;
 
-// What an event tells that wakes nobody.
-fn quiet(code: u8, value: u32) -> Told
-    ensures { result ≡ telling (pos code) value 0 0 }
+// What an event tells that is refused. The code goes on as a number: C has it so, and a line is promised for every number.
+fn refused(refusal: Refusal) -> Told
+    ensures { result ≡ telling (pos (errno_of refusal)) 0 0 0 }
 {
     Told {
         position: None,
-        code: answer(code),
+        code: i32::from(refusal),
+        value: 0,
+        looks: 0,
+        woken: 0,
+    }
+}
+
+// What an event tells that is done and wakes nobody.
+fn done(value: u32) -> Told
+    ensures { result ≡ telling (pos 0) value 0 0 }
+{
+    Told {
+        position: None,
+        code: 0,
         value: value,
         looks: 0,
         woken: 0,

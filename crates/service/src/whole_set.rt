@@ -1,12 +1,13 @@
 // A whole set at once: what a query of each of its semaphores shows, by one walk over its sleepers.
 ghost use Rattle.std.specs.Prelude.{◌≡◌, ℕ, count_ones, slice_index};
+ghost use Rattle.model.specs.Refusal.{errno_of};
 ghost use Rattle.model.specs.WholeSet.{each, set_refused, query_set};
 ghost use Rattle.host.specs.Holding.{Held, host_in, state_in};
 
 use crate::waiting::waiting;
 use host::{HOST_BYTES, lasts_of, set_at, values_of};
-use judging::{answer, slot_of};
-use model::{ALL_ADJUSTMENTS, QueriedSet, READ, SEMAPHORES};
+use judging::slot_of;
+use model::{ALL_ADJUSTMENTS, QueriedSet, READ, Refusal, SEMAPHORES};
 use service_checks::check_access;
 
 // How many processes are in each mask: the number of ones in it.
@@ -17,11 +18,11 @@ fn ones_of(masks: [u8; SEMAPHORES]) -> [u32; SEMAPHORES]
 }
 
 // Refused: zeros after the code.
-fn refused(code: u8) -> QueriedSet
-    ensures { result ≡ set_refused code }
+fn refused(refusal: Refusal) -> QueriedSet
+    ensures { result ≡ set_refused (errno_of refusal) }
 {
     QueriedSet {
-        code: answer(code),
+        code: i32::from(refusal),
         count: 0,
         judged: 0,
         values: [0; SEMAPHORES],
@@ -43,9 +44,8 @@ pub fn query_set(
     requires { Held (host_in host.now adjustments.now) }
     ensures { result ≡ query_set (state_in (host_in host.now adjustments.now)) process identifier }
 {
-    let code = check_access(host, process, identifier, READ);
-    if code != 0 {
-        return refused(code);
+    if let Err(refusal) = check_access(host, process, identifier, READ) {
+        return refused(refusal);
     }
     let slot = slot_of(identifier);
     let set = set_at(host, slot);

@@ -1,26 +1,33 @@
 -- What the checks find in the sets, which they read from the row by slot: the set that an identifier names, and the lowest free
 -- slot.
-use Prim.Native.Nat.{ℕ, zero, suc, ◌+◌, ◌-◌, ◌/◌, ◌%◌, ◌≤◌, ◌<◌}
+use Prim.Native.Nat.{ℕ, zero, suc, ◌+◌, ◌/◌, ◌%◌, ◌≤◌, ◌<◌}
 use native.Mathlib.Nat.{mod-lt, zero-lt-suc}
 use native.Mathlib.Omega.{arith}
-use mathlib.Core.Path.{◌≡◌, refl, sym, ◌∙◌}
-use mathlib.Core.Logic.{◌≢◌}
-use mathlib.Core.Bool.{Bool, false}
+use mathlib.Core.Path.{◌≡◌, refl, sym, ap, ◌∙◌}
+use mathlib.Core.Logic.{◌≢◌, ◌⊎◌, inl, inr}
+use mathlib.Core.Bool.{Bool, true, false, cond, ◌||◌}
 use mathlib.Core.List.{List}
-use borrow.Author.Tests.{lt-ltb}
-use lib.Dec.{eqb}
+use borrow.Author.Tests.{eqb-true, eqb-false, ne_eqb, lt-ltb, le-ltb}
+use lib.Dec.{eqb, ltb}
 use lib.ListN.{get_or}
 use lib.IntN.{ℤ, pos, negsuc, nat_abs}
 use mir.Syntax.{w32}
 use mir.Val.{SFits, to_z, of_z}
 use mir.Facts.{to_z-of_z}
+use Rattle.std.specs.Prelude.{Option, Some, None, MatchOption, Result, Ok, Err, IsErrAnd}
+use Rattle.std.specs.Option.{ok_or}
+use Rattle.model.specs.declared.Refusal.{Refusal}
+use Rattle.model.specs.declared.Refusal.TheVariants.{NoSlot}
 use Rattle.model.specs.declared.Set.{Set}
 use Rattle.model.specs.declared.Caller.{Caller}
-use Rattle.model.specs.Limits.{slots}
-use Rattle.model.specs.State.{caller_of, no_set}
-use Rattle.model.specs.Checks.{or_else, slot_of, names_set, free_from, free_slot}
+use Rattle.model.specs.Limits.{slots, time_max}
+use Rattle.model.specs.Refusal.{errno_of, code_in}
+use Rattle.model.specs.State.{State, caller_of, no_set}
+use Rattle.model.specs.Checks.{check, or_else, slot_of, live, names_set, no_process, asleep, check_caller, check_process, free_from, free_slot}
+use Rattle.model.proofs.RefusalLaws.{refusal_decides}
 use Rattle.host.specs.Parts.{Row}
 use Rattle.host.specs.Holding.{set_at, sets_in, caller_in, callers_in}
+use Rattle.service_checks.specs.Found.{slot_found}
 use Rattle.host.proofs.SetRows.{set_in}
 use Rattle.host.proofs.CallerRows.{caller_in_lem}
 
@@ -30,10 +37,19 @@ read r {slot} e h = set_in r slot h ∙ sym e
 
 -- ---- the set that an identifier names
 
--- the code of checks, by whether an earlier one of them applies
-pub first_decides : (code later : ℕ) → code ≢ 0 → or_else code later ≡ code
-first_decides zero later n = absurd (n refl)
-first_decides (suc code) later n = refl
+-- what an earlier check refused is passed on by `?`, whatever the later ones say
+pub passed_on : {A : Type 0} (refusal : Refusal) {code : ℕ} (r : Result A Refusal) (later : ℕ) → IsErrAnd r (λ e. e ≡ refusal) → errno_of refusal ≡ code → code_in r ≡ or_else code later
+passed_on refusal (Ok x) later i e = absurd i
+passed_on refusal (Err x) later i e = refusal_decides x later (ap errno_of i ∙ e)
+
+-- a caller's checks begin with that for a process
+pub caller_is : (s : State) (p : ℕ) → check_caller s p ≡ or_else (check_process p) (check (asleep p s.queue) 16 0)
+unfolding check_caller check_process
+caller_is s p = go (no_process p)
+  where
+    go : (b : Bool) → check b 3 (check (asleep p s.queue) 16 0) ≡ or_else (check b 3 0) (check (asleep p s.queue) 16 0)
+    go true = refl
+    go false = refl
 
 -- the slot in an identifier is one of the four
 pub slot_within : (i : ℤ) → slot_of i < slots
@@ -68,27 +84,54 @@ module _ (r : Row) {i : ℤ} (n : i ≡ pos (nat_abs i)) {s : Set} (e : s ≡ se
 
 -- ---- the lowest free slot
 
--- the loop: what is found from a slot on is what is found from the first
-pub record Looking (r : Row) (slot : ℕ) : Type 0 where
-  pub within : slot ≤ slots
-  pub same : free_from (sets_in r) slot (slots - slot) ≡ free_slot (sets_in r)
-
-pub look_none : (r : Row) → Looking r 0
-look_none r = record { within = omega arith; same = refl }
-
-module _ {r : Row} {slot : ℕ} (v : Looking r slot) where
-  pub look_end : slots ≤ slot → slot ≡ free_slot (sets_in r)
+-- of n slots from one on: none is free, or the first that is
+module _ (sets : List Set) where
+  none_free : (at n : ℕ) → ((slot : ℕ) → at ≤ slot → slot < at + n → live sets slot ≡ true) → free_from sets at n ≡ at + n
   unfolding free_from
-  look_end h = let none : slots - slot ≡ 0 = omega arith in rw none at v.same
+  none_free at zero h = omega arith
+  none_free at (suc n) h = rw (h at (omega arith) (omega arith)) (none_free (at + 1) n (λ slot l m. h slot (omega (arith, l)) (omega (arith, m))) ∙ omega arith)
 
-  module _ (h : slot < slots) {s : Set} (e : s ≡ set_at r slot) where
-    more : slots - slot ≡ suc (slots - (slot + 1))
-    more = omega arith
+  first_free : (at n slot : ℕ) → at ≤ slot → slot < at + n → live sets slot ≡ false → ((k : ℕ) → at ≤ k → k < slot → live sets k ≡ true) → free_from sets at n ≡ slot
+  unfolding free_from
+  first_free at zero slot l m z h = absurd (omega (arith, l, m))
+  first_free at (suc n) slot l m z h = go (eqb at slot) refl (λ o. first_free (at + 1) n slot (omega (arith, l, o)) (omega (arith, m)) z (λ k a b. h k (omega (arith, a)) b))
+    where
+      go : (b : Bool) → eqb at slot ≡ b → (at ≢ slot → free_from sets (at + 1) n ≡ slot) → cond (live sets at) (free_from sets (at + 1) n) at ≡ slot
+      go true e more = let same : at ≡ slot = eqb-true at slot e in rw (same, z)
+      go false e more = let o : at ≢ slot = eqb-false at slot e in rw (h at (omega arith) (omega (arith, l, o))) (more o)
 
-    pub look_found : s.count ≡ 0 → slot ≡ free_slot (sets_in r)
-    unfolding free_from
-    look_found z = rw (more, read r e h, z) at v.same
+-- what was found in the row, by the sets that were read there
+pub free_found : (r : Row) (found : Option ℕ)
+    → MatchOption found ((k : ℕ) → 0 ≤ k → k < slots → (set_at r k).count ≢ 0)
+    (λ slot. (0 ≤ slot) × (slot < slots) × ((set_at r slot).count ≡ 0) × ((k : ℕ) → 0 ≤ k → k < slot → (set_at r k).count ≢ 0))
+    → found ≡ slot_found (free_slot (sets_in r))
+free_found r found h = go found h
+  where
+    taken : (slot : ℕ) → slot < slots → (set_at r slot).count ≢ 0 → live (sets_in r) slot ≡ true
+    taken slot m n = rw (set_in r slot m, lt-ltb 0 (set_at r slot).count (omega (arith, n)))
 
-    pub look_more : s.count ≢ 0 → Looking r (slot + 1)
-    unfolding free_from
-    look_more n = record { within = omega arith; same = rw (more, read r e h, lt-ltb 0 s.count (omega arith)) at v.same }
+    go : (found : Option ℕ)
+        → MatchOption found ((k : ℕ) → 0 ≤ k → k < slots → (set_at r k).count ≢ 0)
+        (λ slot. (0 ≤ slot) × (slot < slots) × ((set_at r slot).count ≡ 0) × ((k : ℕ) → 0 ≤ k → k < slot → (set_at r k).count ≢ 0))
+        → found ≡ slot_found (free_slot (sets_in r))
+    go None h = rw (none_free (sets_in r) 0 slots (λ slot l m. taken slot m (h slot l m)))
+    go (Some slot) h =
+        let free : live (sets_in r) slot ≡ false = rw (set_in r slot h.1, h.2) in
+        let first : free_slot (sets_in r) ≡ slot = first_free (sets_in r) 0 slots slot h.0 h.1 free (λ k l m. taken k (omega (arith, m, h.1)) (h.3 k l m)) in
+        let n : slot ≢ slots = omega (arith, h.1) in
+        rw (first, ne_eqb slot slots n)
+
+-- "no free slot: 28"
+pub slot_code : (slot : ℕ) → code_in (ok_or (slot_found slot) NoSlot) ≡ check (eqb slot slots) 28 0
+slot_code slot = go (eqb slot slots)
+  where
+    go : (b : Bool) → code_in (ok_or (cond b None (Some slot)) NoSlot) ≡ check b 28 0
+    go true = refl
+    go false = refl
+
+-- ---- the clock
+
+-- a time is refused that is before the last one, or later than the latest
+pub time_refused : (now last : ℕ) → (now < last) ⊎ ((last ≤ now) × (time_max < now)) → ltb now last || ltb time_max now ≡ true
+time_refused now last (inl h) = rw (lt-ltb now last h)
+time_refused now last (inr h) = rw (le-ltb now last h.0, lt-ltb time_max now h.1)

@@ -1,1 +1,2 @@
--- Nothing of its own: the checks promise the model's definitions.
+-- The checks promise the model's definitions.
+pub mod Found

@@ -1,11 +1,12 @@
-// A part of the service: the checks of each event, in the order in which they are asked. Each gives the code of the first
-// that applies, 0 if none does.
+// A part of the service: the checks of each event, in the order in which they are asked. Each refuses with the first that
+// applies.
 //
 // They read the row alone, so their promises hold whatever the adjustments are.
 #![tactic(auto)]
 
-ghost use Rattle.std.specs.Prelude.{◌≡◌, cond, not, ◌||◌, List, ◌%◌, ◌<◌, eqb, ltb, leb, ℤ};
+ghost use Rattle.std.specs.Prelude.{◌≡◌, not, ◌||◌, List, ◌%◌, ◌<◌, eqb, ltb, leb, ℤ, IfOk};
 ghost use Rattle.model.specs.Limits.{operation_bytes};
+ghost use Rattle.model.specs.Refusal.{code_in};
 ghost use Rattle.model.specs.Operation.{operations_of};
 ghost use Rattle.model.specs.Permission.{owns as owns_it};
 ghost use Rattle.model.specs.State.{caller_of};
@@ -14,12 +15,13 @@ ghost use Rattle.judging.specs.Named.{named_within};
 ghost use Rattle.host.specs.Parts.{row_in};
 ghost use Rattle.host.specs.Holding.{sets_in, host_in, state_in};
 ghost use Rattle.service_queue.specs.Seated.{Seated};
+ghost use Rattle.service_checks.specs.Found.{slot_found};
 
 use host::{HOST_BYTES, caller_of, set_at, time_of};
-use judging::{Checked, all_in_range, check_array, in_range, owns, permits, slot_of};
+use judging::{all_in_range, check_array, in_range, owns, permits, slot_of};
 use model::{
-    ALTER, ARRAY_BYTES, MODE_MAX, OPERATION_BYTES, PROCESSES, READ, SEMAPHORES, SETS, TIME_MAX,
-    VALUE_BYTES,
+    ALTER, ARRAY_BYTES, MODE_MAX, OPERATION_BYTES, PROCESSES, READ, Refusal, SEMAPHORES, SETS,
+    TIME_MAX, VALUE_BYTES,
 };
 use service_queue::is_asleep;
 
@@ -52,30 +54,24 @@ fn names_set(host: &[u8; HOST_BYTES], identifier: i32) -> bool
     set.generation as usize == wide / SETS
 }
 
-// The lowest free slot; `SETS` if there is none.
-pub fn free_slot(host: &[u8; HOST_BYTES]) -> usize
-    ensures { result ≡ free_slot (sets_in (row_in host.now)) }
+// The lowest free slot.
+pub fn free_slot(host: &[u8; HOST_BYTES]) -> Option<usize>
+    ensures { result ≡ slot_found (free_slot (sets_in (row_in host.now))) }
 {
-    let mut slot: usize = 0;
-    while slot < SETS {
-        let set = set_at(host, slot);
-        if set.count == 0 {
-            break;
-        }
-        slot += 1;
-    }
-    slot
+    (0..SETS).find(|&slot| set_at(host, slot).count == 0)
 }
 
 // Every event that names a caller: a process, and awake.
-pub fn check_caller(host: &[u8; HOST_BYTES], process: u8) -> u8
+pub fn check_caller(host: &[u8; HOST_BYTES], process: u8) -> Result<(), Refusal>
     requires { Seated (row_in host.now) }
-    ensures { (a : List ℤ) → result ≡ check_caller (state_in (host_in host.now a)) process }
+    ensures { (a : List ℤ) → code_in result ≡ check_caller (state_in (host_in host.now a)) process }
 {
-    if beyond(process, PROCESSES) {
-        return 3;
+    check_process(process)?;
+    if is_asleep(host, process) {
+        Err(Refusal::Asleep)
+    } else {
+        Ok(())
     }
-    if is_asleep(host, process) { 16 } else { 0 }
 }
 
 // May the process do this with the set in the identifier's slot?
@@ -99,63 +95,64 @@ fn may_remove(host: &[u8; HOST_BYTES], process: u8, identifier: i32) -> bool
 }
 
 // What asks something of a set: read all and a whole set ask nothing else.
-pub fn check_access(host: &[u8; HOST_BYTES], process: u8, identifier: i32, asked: u16) -> u8
+pub fn check_access(
+    host: &[u8; HOST_BYTES],
+    process: u8,
+    identifier: i32,
+    asked: u16,
+) -> Result<(), Refusal>
     requires { Seated (row_in host.now) }
-    ensures { (a : List ℤ) → result ≡ check_access (state_in (host_in host.now a)) process identifier asked }
+    ensures { (a : List ℤ) → code_in result ≡ check_access (state_in (host_in host.now a)) process identifier asked }
 {
-    let code = check_caller(host, process);
-    if code != 0 {
-        return code;
-    }
+    check_caller(host, process)?;
     if !names_set(host, identifier) {
-        return 22;
+        return Err(Refusal::Invalid);
     }
     if may(host, process, identifier, asked) {
-        0
+        Ok(())
     } else {
-        13
+        Err(Refusal::NotPermitted)
     }
 }
 
-// Create.
-pub fn check_create(host: &[u8; HOST_BYTES], process: u8, count: u8, mode: u16) -> u8
+// Create: the slot that is to be the set's, the lowest free one.
+pub fn check_create(
+    host: &[u8; HOST_BYTES],
+    process: u8,
+    count: u8,
+    mode: u16,
+) -> Result<usize, Refusal>
     requires { Seated (row_in host.now) }
-    ensures { (a : List ℤ) → result ≡ check_create (state_in (host_in host.now a)) process count mode }
+    ensures code_value { (a : List ℤ) → code_in result ≡ check_create (state_in (host_in host.now a)) process count mode }
+    ensures slot_value { IfOk result (λ slot. slot ≡ free_slot (sets_in (row_in host.now))) }
 {
-    let code = check_caller(host, process);
-    if code != 0 {
-        return code;
+    check_caller(host, process)?;
+    if beyond(count, SEMAPHORES) || MODE_MAX < mode {
+        return Err(Refusal::Invalid);
     }
-    if beyond(count, SEMAPHORES) {
-        return 22;
-    }
-    if MODE_MAX < mode {
-        return 22;
-    }
-    if free_slot(host) == SETS { 28 } else { 0 }
+    free_slot(host).ok_or(Refusal::NoSlot)
 }
 
-// Operate: the code, and the semaphores that the array names, none if it is refused.
-pub fn check_operate(host: &[u8; HOST_BYTES], process: u8, identifier: i32, bytes: &[u8]) -> Checked
+// Operate: the semaphores that the array names.
+pub fn check_operate(
+    host: &[u8; HOST_BYTES],
+    process: u8,
+    identifier: i32,
+    bytes: &[u8],
+) -> Result<u8, Refusal>
     requires { Seated (row_in host.now) }
-    ensures code_value { (a : List ℤ) → result.code ≡ check_operate (state_in (host_in host.now a)) process identifier bytes.now }
-    ensures names_value { result.names ≡ cond (eqb result.code 0) (named_within 0 (operations_of bytes.now)) 0 }
+    ensures code_value { (a : List ℤ) → code_in result ≡ check_operate (state_in (host_in host.now a)) process identifier bytes.now }
+    ensures names_value { IfOk result (λ names. names ≡ named_within 0 (operations_of bytes.now)) }
 {
-    let code = check_caller(host, process);
-    if code != 0 {
-        return Checked {
-            code: code,
-            names: 0,
-        };
-    }
+    check_caller(host, process)?;
     if no_array(bytes.len()) {
-        return Checked { code: 22, names: 0 };
+        return Err(Refusal::Invalid);
     }
     if ARRAY_BYTES < bytes.len() {
-        return Checked { code: 7, names: 0 };
+        return Err(Refusal::TooLong);
     }
     if !names_set(host, identifier) {
-        return Checked { code: 22, names: 0 };
+        return Err(Refusal::Invalid);
     }
     let set = set_at(host, slot_of(identifier));
     let reads = may(host, process, identifier, READ);
@@ -172,18 +169,20 @@ fn lacks(host: &[u8; HOST_BYTES], identifier: i32, number: u16) -> bool
 }
 
 // Query.
-pub fn check_query(host: &[u8; HOST_BYTES], process: u8, identifier: i32, number: u16) -> u8
+pub fn check_query(
+    host: &[u8; HOST_BYTES],
+    process: u8,
+    identifier: i32,
+    number: u16,
+) -> Result<(), Refusal>
     requires { Seated (row_in host.now) }
-    ensures { (a : List ℤ) → result ≡ check_query (state_in (host_in host.now a)) process identifier number }
+    ensures { (a : List ℤ) → code_in result ≡ check_query (state_in (host_in host.now a)) process identifier number }
 {
-    let code = check_access(host, process, identifier, READ);
-    if code != 0 {
-        return code;
-    }
+    check_access(host, process, identifier, READ)?;
     if lacks(host, identifier, number) {
-        22
+        Err(Refusal::Invalid)
     } else {
-        0
+        Ok(())
     }
 }
 
@@ -194,68 +193,77 @@ pub fn check_set_value(
     identifier: i32,
     number: u16,
     value: i32,
-) -> u8
+) -> Result<(), Refusal>
     requires { Seated (row_in host.now) }
-    ensures { (a : List ℤ) → result ≡ check_set_value (state_in (host_in host.now a)) process identifier number value }
+    ensures { (a : List ℤ) → code_in result ≡ check_set_value (state_in (host_in host.now a)) process identifier number value }
 {
-    let code = check_access(host, process, identifier, ALTER);
-    if code != 0 {
-        return code;
-    }
+    check_access(host, process, identifier, ALTER)?;
     if lacks(host, identifier, number) {
-        return 22;
+        return Err(Refusal::Invalid);
     }
-    if in_range(value) { 0 } else { 34 }
+    if in_range(value) {
+        Ok(())
+    } else {
+        Err(Refusal::OutOfRange)
+    }
 }
 
 // Set all: as many values as the set has semaphores, then each in range.
-pub fn check_set_all(host: &[u8; HOST_BYTES], process: u8, identifier: i32, bytes: &[u8]) -> u8
+pub fn check_set_all(
+    host: &[u8; HOST_BYTES],
+    process: u8,
+    identifier: i32,
+    bytes: &[u8],
+) -> Result<(), Refusal>
     requires { Seated (row_in host.now) }
-    ensures { (a : List ℤ) → result ≡ check_set_all (state_in (host_in host.now a)) process identifier bytes.now }
+    ensures { (a : List ℤ) → code_in result ≡ check_set_all (state_in (host_in host.now a)) process identifier bytes.now }
 {
-    let code = check_access(host, process, identifier, ALTER);
-    if code != 0 {
-        return code;
-    }
+    check_access(host, process, identifier, ALTER)?;
     let set = set_at(host, slot_of(identifier));
     if bytes.len() != VALUE_BYTES * (set.count as usize) {
-        return 22;
+        return Err(Refusal::Invalid);
     }
-    if all_in_range(bytes) { 0 } else { 34 }
+    if all_in_range(bytes) {
+        Ok(())
+    } else {
+        Err(Refusal::OutOfRange)
+    }
 }
 
 // Remove.
-pub fn check_remove(host: &[u8; HOST_BYTES], process: u8, identifier: i32) -> u8
+pub fn check_remove(host: &[u8; HOST_BYTES], process: u8, identifier: i32) -> Result<(), Refusal>
     requires { Seated (row_in host.now) }
-    ensures { (a : List ℤ) → result ≡ check_remove (state_in (host_in host.now a)) process identifier }
+    ensures { (a : List ℤ) → code_in result ≡ check_remove (state_in (host_in host.now a)) process identifier }
 {
-    let code = check_caller(host, process);
-    if code != 0 {
-        return code;
-    }
+    check_caller(host, process)?;
     if !names_set(host, identifier) {
-        return 22;
+        return Err(Refusal::Invalid);
     }
     if may_remove(host, process, identifier) {
-        0
+        Ok(())
     } else {
-        1
+        Err(Refusal::NotOwner)
     }
 }
 
 // Signal and exit.
-pub fn check_process(process: u8) -> u8
-    ensures { result ≡ check_process process }
+pub fn check_process(process: u8) -> Result<(), Refusal>
+    ensures { code_in result ≡ check_process process }
 {
-    if beyond(process, PROCESSES) { 3 } else { 0 }
+    if beyond(process, PROCESSES) {
+        Err(Refusal::NoProcess)
+    } else {
+        Ok(())
+    }
 }
 
 // The clock: not before the last time told, and none later than the latest.
-pub fn check_clock(host: &[u8; HOST_BYTES], time: u64) -> u8
-    ensures { (a : List ℤ) → result ≡ check_clock (state_in (host_in host.now a)) time }
+pub fn check_clock(host: &[u8; HOST_BYTES], time: u64) -> Result<(), Refusal>
+    ensures { (a : List ℤ) → code_in result ≡ check_clock (state_in (host_in host.now a)) time }
 {
-    if time < time_of(host) {
-        return 22;
+    if time < time_of(host) || TIME_MAX < time {
+        Err(Refusal::Invalid)
+    } else {
+        Ok(())
     }
-    if TIME_MAX < time { 22 } else { 0 }
 }

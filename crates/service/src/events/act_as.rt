@@ -4,7 +4,7 @@ ghost use Rattle.model.specs.Events.{do_act_as};
 ghost use Rattle.host.specs.Holding.{Held, host_in, state_in};
 ghost use Rattle.service.specs.After.{after_in, after_of};
 
-use crate::events::quiet;
+use crate::events::{done, refused};
 use host::{HOST_BYTES, put_caller};
 use model::{ALL_ADJUSTMENTS, Caller, Told, WAKING_BYTES};
 use service_checks::check_caller;
@@ -23,14 +23,13 @@ pub fn act_as(
     ensures { after_in host.new adjustments.new wakings.new result ≡ after_of (do_act_as (state_in (host_in host.old adjustments.old)) process user group) }
 {
     clear(wakings);
-    let code = check_caller(&*host, process);
-    if code != 0 {
-        return quiet(code, 0);
+    if let Err(refusal) = check_caller(&*host, process) {
+        return refused(refusal);
     }
     let caller = Caller {
         user: user,
         group: group,
     };
     put_caller(host, process, caller);
-    quiet(0, 0)
+    done(0)
 }

@@ -4,7 +4,7 @@ ghost use Rattle.model.specs.Events.{do_clock};
 ghost use Rattle.host.specs.Holding.{Held, host_in, state_in};
 ghost use Rattle.service.specs.After.{after_in, after_of};
 
-use crate::events::{quiet, told};
+use crate::events::{refused, told};
 use host::{HOST_BYTES, is_due, put_time};
 use model::{ALL_ADJUSTMENTS, Told, WAKING_BYTES};
 use service_checks::check_clock;
@@ -23,9 +23,8 @@ pub fn clock(
     ensures { after_in host.new adjustments.new wakings.new result ≡ after_of (do_clock (state_in (host_in host.old adjustments.old)) time) }
 {
     clear(&mut *wakings);
-    let code = check_clock(&*host, time);
-    if code != 0 {
-        return quiet(code, 0);
+    if let Err(refusal) = check_clock(&*host, time) {
+        return refused(refusal);
     }
     put_time(&mut *host, time);
     let woken = end_all(

@@ -4,10 +4,10 @@ ghost use Rattle.model.specs.Events.{do_create};
 ghost use Rattle.host.specs.Holding.{Held, host_in, state_in};
 ghost use Rattle.service.specs.After.{after_in, after_of};
 
-use crate::events::quiet;
+use crate::events::{done, refused};
 use host::{HOST_BYTES, caller_of, put_set, set_at};
 use model::{ALL_ADJUSTMENTS, SETS, Set, Told, WAKING_BYTES};
-use service_checks::{check_create, free_slot};
+use service_checks::check_create;
 use service_table::clear_slot;
 use wakings::clear;
 
@@ -23,11 +23,10 @@ pub fn create(
     ensures { after_in host.new adjustments.new wakings.new result ≡ after_of (do_create (state_in (host_in host.old adjustments.old)) process count mode) }
 {
     clear(wakings);
-    let code = check_create(&*host, process, count, mode);
-    if code != 0 {
-        return quiet(code, 0);
-    }
-    let slot = free_slot(&*host);
+    let slot = match check_create(&*host, process, count, mode) {
+        Ok(slot) => slot,
+        Err(refusal) => return refused(refusal),
+    };
     let old = set_at(&*host, slot);
     let generation = old.generation;
     let caller = caller_of(&*host, process);
@@ -40,5 +39,5 @@ pub fn create(
     };
     put_set(&mut *host, slot, set);
     clear_slot(host, adjustments, slot);
-    quiet(0, (slot as u32) + (SETS as u32) * (generation as u32))
+    done((slot as u32) + (SETS as u32) * (generation as u32))
 }

@@ -9,7 +9,7 @@ ghost use Rattle.service_table.specs.Numbered.{IsProcess};
 ghost use Rattle.service_table.specs.Written.{tabled};
 ghost use Rattle.service.specs.After.{after_in, after_of};
 
-use crate::events::{quiet, told};
+use crate::events::{refused, told};
 use host::HOST_BYTES;
 use model::{ALL_ADJUSTMENTS, Engine, SETS, Told, WAKING_BYTES};
 use service_checks::check_process;
@@ -48,9 +48,8 @@ pub fn exit(
     ensures { after_in host.new adjustments.new wakings.new result ≡ after_of (do_exit (waker engine) (state_in (host_in host.old adjustments.old)) process) }
 {
     clear(&mut *wakings);
-    let code = check_process(process);
-    if code != 0 {
-        return quiet(code, 0);
+    if let Err(refusal) = check_process(process) {
+        return refused(refusal);
     }
     leave(&mut *host, process);
     let touched = undo_all(&mut *host, &mut *adjustments, process);

@@ -15,7 +15,7 @@ ghost use Rattle.host.specs.Holding.{Held, time_in, with_queue, queue_in, host_i
 ghost use Rattle.host.specs.Queue.{Room, QueueHeld};
 ghost use Rattle.service.specs.After.{after_in, after_of};
 
-use crate::events::{nobody, not_done, quiet, told};
+use crate::events::{nobody, not_done, refused, told};
 use host::{HOST_BYTES, adjustments_of, values_of};
 use judging::{judge, slot_of};
 use model::{ALL_ADJUSTMENTS, Engine, Outcome, Told, WAKING_BYTES, Wait};
@@ -76,10 +76,10 @@ pub fn operate(
     ensures { after_in host.new adjustments.new wakings.new result ≡ after_of (do_operate (waker engine) (state_in (host_in host.old adjustments.old)) process identifier wait bytes.now) }
 {
     clear(&mut *wakings);
-    let checked = check_operate(&*host, process, identifier, bytes);
-    if checked.code != 0 {
-        return quiet(checked.code, 0);
-    }
+    let names = match check_operate(&*host, process, identifier, bytes) {
+        Ok(names) => names,
+        Err(refusal) => return refused(refusal),
+    };
     let slot = slot_of(identifier);
     let before = values_of(&*host, slot);
     let mut values = before;
@@ -93,7 +93,7 @@ pub fn operate(
                 &mut *adjustments,
                 process,
                 slot,
-                checked.names,
+                names,
                 values,
                 undo,
             );
@@ -101,7 +101,7 @@ pub fn operate(
             told(wake(host, adjustments, wakings, engine, slot, touched, nobody()))
         }
         Outcome::Sleep => {
-            let code = would_sleep(host, process, slot, bytes, checked.names, wait);
+            let code = would_sleep(host, process, slot, bytes, names, wait);
             not_done(code, outcome, verdict.position)
         }
         Outcome::Again => not_done(11, outcome, verdict.position),

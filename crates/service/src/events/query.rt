@@ -1,21 +1,22 @@
 // Query: a semaphore's value and last process, and who waits for it.
 ghost use Rattle.std.specs.Prelude.{◌≡◌, pos};
+ghost use Rattle.model.specs.Refusal.{errno_of};
 ghost use Rattle.model.specs.Events.{answer as answer_of, do_query};
 ghost use Rattle.host.specs.Holding.{Held, host_in, state_in};
 ghost use Rattle.service.specs.After.{queried_of, showing};
 
 use crate::waiting::waiting;
 use host::{HOST_BYTES, last_at, value_at};
-use judging::{answer, slot_of};
-use model::{ALL_ADJUSTMENTS, Queried, SEMAPHORES};
+use judging::slot_of;
+use model::{ALL_ADJUSTMENTS, Queried, Refusal, SEMAPHORES};
 use service_checks::check_query;
 
 // A refused query: zeros after the code.
-fn refused(code: u8) -> Queried
-    ensures { result ≡ showing (answer_of (pos code)) 0 }
+fn refused(refusal: Refusal) -> Queried
+    ensures { result ≡ showing (answer_of (pos (errno_of refusal))) 0 }
 {
     Queried {
-        code: answer(code),
+        code: i32::from(refusal),
         value: 0,
         last: 0,
         increase: 0,
@@ -37,9 +38,8 @@ pub fn query(
     requires { Held (host_in host.now adjustments.now) }
     ensures { result ≡ queried_of (do_query (state_in (host_in host.now adjustments.now)) process identifier number) }
 {
-    let code = check_query(host, process, identifier, number);
-    if code != 0 {
-        return refused(code);
+    if let Err(refusal) = check_query(host, process, identifier, number) {
+        return refused(refusal);
     }
     let slot = slot_of(identifier);
     let n = number as usize;

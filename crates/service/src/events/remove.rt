@@ -4,7 +4,7 @@ ghost use Rattle.model.specs.Events.{do_remove};
 ghost use Rattle.host.specs.Holding.{Held, host_in, state_in};
 ghost use Rattle.service.specs.After.{after_in, after_of};
 
-use crate::events::{quiet, told};
+use crate::events::{refused, told};
 use host::{HOST_BYTES, put_set, set_at, slot_at};
 use judging::slot_of;
 use model::{ALL_ADJUSTMENTS, Set, Told, WAKING_BYTES};
@@ -26,9 +26,8 @@ pub fn remove(
     ensures { after_in host.new adjustments.new wakings.new result ≡ after_of (do_remove (state_in (host_in host.old adjustments.old)) process identifier) }
 {
     clear(&mut *wakings);
-    let code = check_remove(&*host, process, identifier);
-    if code != 0 {
-        return quiet(code, 0);
+    if let Err(refusal) = check_remove(&*host, process, identifier) {
+        return refused(refusal);
     }
     let slot = slot_of(identifier);
     let old = set_at(&*host, slot);

@@ -7,7 +7,7 @@ ghost use Rattle.model.specs.Events.{do_set_all};
 ghost use Rattle.host.specs.Holding.{Held, host_in, state_in};
 ghost use Rattle.service.specs.After.{after_in, after_of};
 
-use crate::events::{nobody, quiet, told};
+use crate::events::{nobody, refused, told};
 use host::{HOST_BYTES, set_at};
 use judging::slot_of;
 use model::{ALL_ADJUSTMENTS, Engine, Told, WAKING_BYTES};
@@ -39,9 +39,8 @@ pub fn set_all(
     ensures { after_in host.new adjustments.new wakings.new result ≡ after_of (do_set_all (waker engine) (state_in (host_in host.old adjustments.old)) process identifier values.now) }
 {
     clear(&mut *wakings);
-    let code = check_set_all(&*host, process, identifier, values);
-    if code != 0 {
-        return quiet(code, 0);
+    if let Err(refusal) = check_set_all(&*host, process, identifier, values) {
+        return refused(refusal);
     }
     let slot = slot_of(identifier);
     let set = set_at(&*host, slot);

@@ -5,7 +5,7 @@ ghost use Rattle.model.specs.Events.{do_set_value};
 ghost use Rattle.host.specs.Holding.{Held, host_in, state_in};
 ghost use Rattle.service.specs.After.{after_in, after_of};
 
-use crate::events::{nobody, quiet, told};
+use crate::events::{nobody, refused, told};
 use host::HOST_BYTES;
 use judging::{slot_of, value_of};
 use model::{ALL_ADJUSTMENTS, Engine, Told, WAKING_BYTES};
@@ -29,9 +29,8 @@ pub fn set_value(
     ensures { after_in host.new adjustments.new wakings.new result ≡ after_of (do_set_value (waker engine) (state_in (host_in host.old adjustments.old)) process identifier number value) }
 {
     clear(&mut *wakings);
-    let code = check_set_value(&*host, process, identifier, number, value);
-    if code != 0 {
-        return quiet(code, 0);
+    if let Err(refusal) = check_set_value(&*host, process, identifier, number, value) {
+        return refused(refusal);
     }
     let slot = slot_of(identifier);
     let at = number as usize;

@@ -4,7 +4,7 @@ ghost use Rattle.model.specs.Events.{do_signal};
 ghost use Rattle.host.specs.Holding.{Held, host_in, state_in};
 ghost use Rattle.service.specs.After.{after_in, after_of};
 
-use crate::events::{quiet, told};
+use crate::events::{done, refused, told};
 use host::HOST_BYTES;
 use model::{ALL_ADJUSTMENTS, Position, Told, WAKING_BYTES};
 use service_checks::check_process;
@@ -22,12 +22,11 @@ pub fn signal(
     ensures { after_in host.new adjustments.new wakings.new result ≡ after_of (do_signal (state_in (host_in host.old adjustments.old)) process) }
 {
     clear(wakings);
-    let code = check_process(process);
-    if code != 0 {
-        return quiet(code, 0);
+    if let Err(refusal) = check_process(process) {
+        return refused(refusal);
     }
     if !leave(host, process) {
-        return quiet(0, 0);
+        return done(0);
     }
     note(wakings, 0, process, 4, None);
     told(Tally { looks: 0, woken: 1 })

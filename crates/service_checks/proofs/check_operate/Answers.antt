@@ -1,12 +1,12 @@
 use Prim.Native.Nat.{◌%◌}
-use mathlib.Core.Path.{◌≡◌, refl, sym, ◌∙◌}
+use mathlib.Core.Path.{◌≡◌, sym, ◌∙◌}
 use mathlib.Core.Bool.{false, not, ◌||◌}
 use mathlib.Core.List.{List, []}
 use lib.Dec.{eqb, ltb}
 use lib.IntN.{ℤ}
 use lib.ListN.{length, get_or}
 use mir.Facts.{to_z-of_z}
-use borrow.Author.Tests.{ne_eqb, lt-ltb, le-ltb}
+use borrow.Author.Tests.{lt-ltb, le-ltb}
 use Rattle.model.specs.Limits.{operation_bytes, array_bytes}
 use Rattle.model.specs.State.{no_set}
 use Rattle.model.specs.Permission.{reading, altering}
@@ -14,17 +14,14 @@ use Rattle.model.specs.Checks.{slot_of, names_set, may, check_caller, check_oper
 use Rattle.model.proofs.CheckLaws.{caller_passes}
 use Rattle.host.specs.Parts.{row_in}
 use Rattle.host.specs.Holding.{sets_in, host_in, state_in}
-use Rattle.service_checks.proofs.FoundSets.{first_decides, names_found, set_found}
+use Rattle.service_checks.proofs.FoundSets.{passed_on, names_found, set_found}
 use Rattle.service_checks.proofs.check_operate.Goals as goal
-use Rattle.service_checks.proofs.check_operate.Goals.{After-check_caller-code, After-may-alters, After-names_set, After-set_at-set, Else-bytes-gt-ARRAY_BYTES, Else-code-ne0}
+use Rattle.service_checks.proofs.check_operate.Goals.{After-may-alters, After-names_set, After-set_at-set, After-no_array, Else-bytes-gt-ARRAY_BYTES}
 
 -- what the checks found
-called : (c : After-check_caller-code) (a : List ℤ) → check_caller (state_in (host_in c.args.host.now a)) c.args.process ≡ c.check_caller-code.result
-called c a = sym (c.check_caller-code.ensures a)
-
 -- the caller is a process, and awake
-awake : (c : Else-code-ne0) (a : List ℤ) → check_caller (state_in (host_in c.args.host.now a)) c.args.process ≡ 0
-awake c a = sym (c.check_caller-code.ensures a) ∙ c.if-code-ne0.false
+awake : (c : After-no_array) (a : List ℤ) → check_caller (state_in (host_in c.args.host.now a)) c.args.process ≡ 0
+awake c a = sym (c.in_ok-check_caller.ensures a)
 
 -- .. with an array that is not too long
 arrayed : (c : Else-bytes-gt-ARRAY_BYTES) →
@@ -45,41 +42,31 @@ reads c a = sym (rw (to_z-of_z c.ranges.identifier) at (c.may-reads.ensures a))
 alters : (c : After-may-alters) (a : List ℤ) → may (state_in (host_in c.args.host.now a)) c.args.process c.args.identifier altering ≡ c.may-alters.result
 alters c a = sym (rw (to_z-of_z c.ranges.identifier) at (c.may-alters.ensures a))
 
-pub returns-then-code-ne0 : goal.returns-then-code-ne0
+pub returns-in_err-check_caller-clause-code_value : goal.returns-in_err-check_caller-clause-code_value
 unfolding check_operate
-returns-then-code-ne0 c =
-    record {
-      code_value = λ a. rw (called (goal.at.returns-then-code-ne0 c).After-check_caller-code a) (sym (first_decides _ _ c.if-code-ne0.true));
-      names_value = rw (ne_eqb _ 0 c.if-code-ne0.true);
-    }
+returns-in_err-check_caller-clause-code_value c a = passed_on c.in_err-check_caller.field-0.0 c.from_residual.result _ c.from_residual.ensures.1 (c.in_err-check_caller.ensures a)
 
-pub returns-then-no_array : goal.returns-then-no_array
+pub returns-then-no_array-clause-code_value : goal.returns-then-no_array-clause-code_value
 unfolding check_operate
-returns-then-no_array c =
-    record { code_value = λ a. rw (awake (goal.at.returns-then-no_array c).Else-code-ne0 a, sym c.no_array.ensures ∙ c.if-no_array.true); names_value = refl }
+returns-then-no_array-clause-code_value c a = rw (awake (goal.at.returns-then-no_array-clause-code_value c).After-no_array a, sym c.no_array.ensures ∙ c.if-no_array.true)
 
-pub returns-then-bytes-gt-ARRAY_BYTES : goal.returns-then-bytes-gt-ARRAY_BYTES
+pub returns-then-bytes-gt-ARRAY_BYTES-clause-code_value : goal.returns-then-bytes-gt-ARRAY_BYTES-clause-code_value
 unfolding check_operate
-returns-then-bytes-gt-ARRAY_BYTES c =
-    record {
-      code_value = λ a. rw (awake (goal.at.returns-then-bytes-gt-ARRAY_BYTES c).Else-code-ne0 a, sym c.no_array.ensures ∙ c.if-no_array.false, lt-ltb array_bytes _ c.if-bytes-gt-ARRAY_BYTES.true);
-      names_value = refl;
-    }
+returns-then-bytes-gt-ARRAY_BYTES-clause-code_value c a =
+    rw (awake (goal.at.returns-then-bytes-gt-ARRAY_BYTES-clause-code_value c).After-no_array a, sym c.no_array.ensures ∙ c.if-no_array.false, lt-ltb array_bytes _ c.if-bytes-gt-ARRAY_BYTES.true)
 
-pub returns-then-not-names_set : goal.returns-then-not-names_set
+pub returns-then-not-names_set-clause-code_value : goal.returns-then-not-names_set-clause-code_value
 unfolding check_operate
-returns-then-not-names_set c =
-    let d = arrayed (goal.at.returns-then-not-names_set c).Else-bytes-gt-ARRAY_BYTES in
-    record {
-      code_value = λ a. rw (awake (goal.at.returns-then-not-names_set c).Else-code-ne0 a, d.0, d.1, names (goal.at.returns-then-not-names_set c).After-names_set ∙ c.if-not-names_set.true);
-      names_value = refl;
-    }
+returns-then-not-names_set-clause-code_value c a =
+    let d = arrayed (goal.at.returns-then-not-names_set-clause-code_value c).Else-bytes-gt-ARRAY_BYTES in
+    let n = (goal.at.returns-then-not-names_set-clause-code_value c).After-names_set in
+    rw (awake (goal.at.returns-then-not-names_set-clause-code_value c).After-no_array a, d.0, d.1, names n ∙ c.if-not-names_set.true)
 
 pub may-reads-requires : goal.may-reads-requires
-may-reads-requires c = (caller_passes (state_in (host_in c.args.host.now [])) _ (awake (goal.at.may-reads-requires c).Else-code-ne0 [])).process
+may-reads-requires c = (caller_passes (state_in (host_in c.args.host.now [])) _ (awake (goal.at.may-reads-requires c).After-no_array [])).process
 
 pub may-alters-requires : goal.may-alters-requires
-may-alters-requires c = (caller_passes (state_in (host_in c.args.host.now [])) _ (awake (goal.at.may-alters-requires c).Else-code-ne0 [])).process
+may-alters-requires c = (caller_passes (state_in (host_in c.args.host.now [])) _ (awake (goal.at.may-alters-requires c).After-no_array [])).process
 
 pub returns : goal.returns
 unfolding check_operate
@@ -88,7 +75,7 @@ returns c =
     let m = (goal.at.returns c).After-may-alters in
     record {
       code_value = λ a.
-          rw (awake (goal.at.returns c).Else-code-ne0 a, d.0, d.1, names (goal.at.returns c).After-names_set ∙ c.if-not-names_set.false, reads m a, alters m a, set_is (goal.at.returns c).After-set_at-set)
+          rw (awake (goal.at.returns c).After-no_array a, d.0, d.1, names (goal.at.returns c).After-names_set ∙ c.if-not-names_set.false, reads m a, alters m a, set_is (goal.at.returns c).After-set_at-set)
           c.check_array.ensures.code_value;
       names_value = c.check_array.ensures.names_value;
     }

@@ -8,16 +8,13 @@ use Rattle.model.specs.Checks.{names_set, set_of, check_caller, check_remove}
 use Rattle.model.proofs.CheckLaws.{caller_passes}
 use Rattle.host.specs.Parts.{row_in}
 use Rattle.host.specs.Holding.{sets_in, host_in, state_in}
-use Rattle.service_checks.proofs.FoundSets.{first_decides, names_found}
+use Rattle.service_checks.proofs.FoundSets.{passed_on, names_found}
 use Rattle.service_checks.proofs.check_remove.Goals as goal
-use Rattle.service_checks.proofs.check_remove.Goals.{After-check_caller-code, After-may_remove, After-names_set}
+use Rattle.service_checks.proofs.check_remove.Goals.{After-may_remove, After-names_set}
 
 -- what the checks found
-called : (c : After-check_caller-code) (a : List ℤ) → check_caller (state_in (host_in c.args.host.now a)) c.args.process ≡ c.check_caller-code.result
-called c a = sym (c.check_caller-code.ensures a)
-
 awake : (c : After-names_set) (a : List ℤ) → check_caller (state_in (host_in c.args.host.now a)) c.args.process ≡ 0
-awake c a = sym (c.check_caller-code.ensures a) ∙ c.if-code-ne0.false
+awake c a = sym (c.in_ok-check_caller.ensures a)
 
 names : (c : After-names_set) → names_set (sets_in (row_in c.args.host.now)) c.args.identifier ≡ c.names_set.result
 names c = names_found c.ranges.identifier _ c.names_set.ensures
@@ -25,9 +22,9 @@ names c = names_found c.ranges.identifier _ c.names_set.ensures
 owned : (c : After-may_remove) (a : List ℤ) → owns (caller_of (state_in (host_in c.args.host.now a)).callers c.args.process) (set_of (state_in (host_in c.args.host.now a)) c.args.identifier) ≡ c.may_remove.result
 owned c a = sym (rw (to_z-of_z c.ranges.identifier) at (c.may_remove.ensures a))
 
-pub returns-then-code-ne0 : goal.returns-then-code-ne0
+pub returns-in_err-check_caller : goal.returns-in_err-check_caller
 unfolding check_remove
-returns-then-code-ne0 c a = rw (called (goal.at.returns-then-code-ne0 c).After-check_caller-code a) (sym (first_decides _ _ c.if-code-ne0.true))
+returns-in_err-check_caller c a = passed_on c.in_err-check_caller.field-0.0 c.from_residual.result _ c.from_residual.ensures.1 (c.in_err-check_caller.ensures a)
 
 pub returns-then-not-names_set : goal.returns-then-not-names_set
 unfolding check_remove

@@ -11,24 +11,21 @@ use Rattle.model.specs.Permission.{altering}
 use Rattle.model.specs.Checks.{slot_of, check_access, check_set_all}
 use Rattle.host.specs.Parts.{row_in}
 use Rattle.host.specs.Holding.{sets_in, host_in, state_in}
-use Rattle.service_checks.proofs.FoundSets.{first_decides, set_found}
+use Rattle.service_checks.proofs.FoundSets.{passed_on, set_found}
 use Rattle.service_checks.proofs.check_set_all.Goals as goal
-use Rattle.service_checks.proofs.check_set_all.Goals.{After-check_access-code, After-set_at-set}
+use Rattle.service_checks.proofs.check_set_all.Goals.{After-set_at-set}
 
 -- what the checks found
-accessed : (c : After-check_access-code) (a : List ℤ) → check_access (state_in (host_in c.args.host.now a)) c.args.process c.args.identifier altering ≡ c.check_access-code.result
-accessed c a = sym (rw (to_z-of_z c.ranges.identifier) at (c.check_access-code.ensures a))
-
 open_set : (c : After-set_at-set) (a : List ℤ) → check_access (state_in (host_in c.args.host.now a)) c.args.process c.args.identifier altering ≡ 0
-open_set c a = sym (rw (to_z-of_z c.ranges.identifier) at (c.check_access-code.ensures a)) ∙ c.if-code-ne0.false
+open_set c a = sym (rw (to_z-of_z c.ranges.identifier) at (c.in_ok-check_access.ensures a))
 
 -- the set that was read is the one that the identifier names
 set_is : (c : After-set_at-set) → get_or (sets_in (row_in c.args.host.now)) (slot_of c.args.identifier) no_set ≡ c.set_at-set.result
 set_is c = set_found c.ranges.identifier (row_in c.args.host.now) c.slot_of.ensures c.set_at-set.ensures
 
-pub returns-then-code-ne0 : goal.returns-then-code-ne0
+pub returns-in_err-check_access : goal.returns-in_err-check_access
 unfolding check_set_all
-returns-then-code-ne0 c a = rw (accessed (goal.at.returns-then-code-ne0 c).After-check_access-code a) (sym (first_decides _ _ c.if-code-ne0.true))
+returns-in_err-check_access c a = passed_on c.in_err-check_access.field-0.0 c.from_residual.result _ c.from_residual.ensures.1 (rw (to_z-of_z c.ranges.identifier) at (c.in_err-check_access.ensures a))
 
 pub returns-then-bytes-set : goal.returns-then-bytes-set
 unfolding check_set_all

@@ -6,16 +6,13 @@ use mir.Facts.{to_z-of_z}
 use Rattle.model.specs.Permission.{altering}
 use Rattle.model.specs.Checks.{set_of, check_access, in_range, check_set_value}
 use Rattle.host.specs.Holding.{host_in, state_in}
-use Rattle.service_checks.proofs.FoundSets.{first_decides}
+use Rattle.service_checks.proofs.FoundSets.{passed_on}
 use Rattle.service_checks.proofs.check_set_value.Goals as goal
-use Rattle.service_checks.proofs.check_set_value.Goals.{After-check_access-code, After-in_range, After-lacks}
+use Rattle.service_checks.proofs.check_set_value.Goals.{After-in_range, After-lacks}
 
 -- what the checks found
-accessed : (c : After-check_access-code) (a : List ℤ) → check_access (state_in (host_in c.args.host.now a)) c.args.process c.args.identifier altering ≡ c.check_access-code.result
-accessed c a = sym (rw (to_z-of_z c.ranges.identifier) at (c.check_access-code.ensures a))
-
 open_set : (c : After-lacks) (a : List ℤ) → check_access (state_in (host_in c.args.host.now a)) c.args.process c.args.identifier altering ≡ 0
-open_set c a = sym (rw (to_z-of_z c.ranges.identifier) at (c.check_access-code.ensures a)) ∙ c.if-code-ne0.false
+open_set c a = sym (rw (to_z-of_z c.ranges.identifier) at (c.in_ok-check_access.ensures a))
 
 numbered : (c : After-lacks) (a : List ℤ) → leb (set_of (state_in (host_in c.args.host.now a)) c.args.identifier).count c.args.number ≡ c.lacks.result
 numbered c a = sym (rw (to_z-of_z c.ranges.identifier) at (c.lacks.ensures a))
@@ -23,9 +20,9 @@ numbered c a = sym (rw (to_z-of_z c.ranges.identifier) at (c.lacks.ensures a))
 range : (c : After-in_range) → in_range c.args.value ≡ c.in_range.result
 range c = sym (rw (to_z-of_z c.ranges.value) at c.in_range.ensures)
 
-pub returns-then-code-ne0 : goal.returns-then-code-ne0
+pub returns-in_err-check_access : goal.returns-in_err-check_access
 unfolding check_set_value
-returns-then-code-ne0 c a = rw (accessed (goal.at.returns-then-code-ne0 c).After-check_access-code a) (sym (first_decides _ _ c.if-code-ne0.true))
+returns-in_err-check_access c a = passed_on c.in_err-check_access.field-0.0 c.from_residual.result _ c.from_residual.ensures.1 (rw (to_z-of_z c.ranges.identifier) at (c.in_err-check_access.ensures a))
 
 pub returns-then-lacks : goal.returns-then-lacks
 unfolding check_set_value

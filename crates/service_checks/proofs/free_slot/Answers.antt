@@ -1,11 +1,13 @@
-use Rattle.service_checks.proofs.FoundSets.{look_end, look_found, look_more}
+use Rattle.std.proofs.Common.{◌≡◌, ◌≢◌, rules, tests}
+use Rattle.std.proofs.lemmas.Iterator.{first_from_Range}
+use Rattle.host.specs.Parts.{row_in}
+use Rattle.host.specs.Holding.{set_at}
+use Rattle.service_checks.proofs.FoundSets.{free_found}
 use Rattle.service_checks.proofs.free_slot.Goals as goal
 
-pub loop-slot-preserved : goal.loop-slot-preserved
-loop-slot-preserved c = look_more c.loop-slot.invariant c.loop-slot-test.true c.set_at-set.ensures c.if-set-eq0.false
-
-pub returns-after-loop-slot : goal.returns-after-loop-slot
-returns-after-loop-slot c = look_end c.loop-slot.invariant c.loop-slot-test.false
-
-pub returns-then-set-eq0 : goal.returns-then-set-eq0
-returns-then-set-eq0 c = look_found c.loop-slot.invariant c.loop-slot-test.true c.set_at-set.ensures c.if-set-eq0.true
+pub returns : goal.returns
+returns c =
+    let r = row_in c.args.host.now in
+    free_found r _ (first_from_Range _ _ _ _ (λ slot. (set_at r slot).count ≡ 0) (λ slot. (set_at r slot).count ≢ 0) c.find.ensures.ran
+    (λ x q k. search (rules, tests))
+    (λ x q k. (search rules, search (rules, tests))))
