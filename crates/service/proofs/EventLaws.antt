@@ -1,13 +1,16 @@
 -- What every event may use of the host that it is lent, and what it leaves: a refusal, or what a waking leaves.
 use Rattle.std.proofs.Common.{◌≡◌, ℕ, zero, suc, ◌≤◌, List, [], length, pos, sym, refl, ap, ◌∙◌, subst, ap₂, arith}
 use Rattle.model.specs.declared.Engine.{Engine}
+use Rattle.model.specs.declared.Refusal.{Refusal}
 use Rattle.model.specs.declared.Told.{Told}
 use Rattle.model.specs.Limits.{semaphores, processes}
+use Rattle.model.specs.Refusal.{errno_of}
 use Rattle.model.specs.State.{Table, Sleeper, State}
 use Rattle.model.specs.Waking.{World, Ended, waker}
 use Rattle.model.specs.Events.{Result, checked, woken_as, world}
 use Rattle.model.specs.Runs.{All}
 use Rattle.model.specs.Invariant.{Good, Fits, Distinct, Invariant, Calm, count_at}
+use Rattle.model.proofs.RefusalLaws.{errno_some}
 use Rattle.model.proofs.Lists.{all_map}
 use Rattle.model.proofs.Engines.{reached}
 use Rattle.model.proofs.LookLaws.{count_fits}
@@ -80,10 +83,11 @@ module _ (x : Host) (k : Held x) where
       ap₂ (λ (l : List Place) (u : Told). record { host = x; wakings = l; told = u }) ew et
       ∙ ap (λ (y : Host). record { host = y; wakings = list_of []; told = telling (pos (suc code)) 0 0 0 }) k.holds
 
-  -- .. with the code that the checks found
-  pub refused_after : {found code : ℕ} (does : Result) {told : Told} {wakings : List Place} → found ≡ code → (found ≡ 0 → ⊥) → wakings ≡ list_of [] → told ≡ telling (pos found) 0 0 0
+  -- .. as the checks found
+  pub refused_after : (refusal : Refusal) {code : ℕ} (does : Result) {told : Told} {wakings : List Place} → errno_of refusal ≡ code → wakings ≡ list_of [] → told ≡ telling (pos (errno_of refusal)) 0 0 0
       → record { host = x; wakings = wakings; told = told } ≡ after_of (checked code (state_in x) does)
-  refused_after {found} {code} does e n ew et = after_refused code does (λ z. n (e ∙ z)) ew (et ∙ ap (λ (c : ℕ). telling (pos c) 0 0 0) e)
+  refused_after refusal {code} does e ew et =
+      after_refused code does (λ z. errno_some refusal (e ∙ z)) ew (et ∙ ap (λ (c : ℕ). telling (pos c) 0 0 0) e)
 
   -- ---- what a waking begins with, and what it leaves
 

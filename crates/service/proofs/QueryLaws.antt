@@ -1,12 +1,15 @@
 -- A query: its semaphore's masks out of those of its set.
 use Rattle.std.proofs.Common.{◌≡◌, ℕ, zero, suc, ◌+◌, ◌<◌, get_or, ℤ, pos, refl, ap, ◌∙◌, arith}
 use lib.Count.{ones}
+use Rattle.model.specs.declared.Refusal.{Refusal}
+use Rattle.model.specs.Refusal.{errno_of}
 use Rattle.model.specs.Limits.{slots, semaphores}
 use Rattle.model.specs.State.{row}
 use Rattle.model.specs.Marks.{mask_of}
 use Rattle.model.specs.Checks.{slot_of, check_query}
 use Rattle.model.specs.Counts.{for_increase, for_zero}
 use Rattle.model.specs.Events.{Result, answer, checked, seen_at, do_query}
+use Rattle.model.proofs.RefusalLaws.{errno_some}
 use Rattle.model.proofs.CheckLaws.{query_passes}
 use Rattle.model.proofs.Ones.{ones_mask}
 use Rattle.model.proofs.WholeSetLaws.{each_at}
@@ -22,9 +25,9 @@ refuses zero r s n = absurd (n refl)
 refuses (suc code) r s n = refl
 
 module _ (x : Host) (k : Held x) (p : ℕ) (i : ℤ) (n : ℕ) where
-  pub query_refused : {code : ℕ} → code ≡ check_query (state_in x) p i n → (code ≡ 0 → ⊥) → showing (answer (pos code)) 0 ≡ queried_of (do_query (state_in x) p i n)
+  pub query_refused : (refusal : Refusal) → errno_of refusal ≡ check_query (state_in x) p i n → showing (answer (pos (errno_of refusal))) 0 ≡ queried_of (do_query (state_in x) p i n)
   unfolding do_query
-  query_refused {code} e z = rw (← e) (refuses code _ (state_in x) z)
+  query_refused refusal e = rw (← e) (refuses (errno_of refusal) _ (state_in x) (errno_some refusal))
 
   -- the semaphore is one of the table's
   pub query_small : check_query (state_in x) p i n ≡ 0 → {slot : ℕ} → slot ≡ slot_of i → (slot < slots) × (n < semaphores)

@@ -3,6 +3,8 @@ use Rattle.std.proofs.Common.{◌≡◌, ℕ, zero, suc, ◌+◌, ◌<◌, Bool,
 use lib.Count.{ones}
 use Rattle.model.specs.declared.QueriedSet.{QueriedSet}
 use Rattle.model.specs.declared.Set.{Set}
+use Rattle.model.specs.declared.Refusal.{Refusal}
+use Rattle.model.specs.Refusal.{errno_of}
 use Rattle.model.specs.Limits.{slots, semaphores}
 use Rattle.model.specs.State.{Sleeper, row}
 use Rattle.model.specs.Marks.{mask_of}
@@ -11,6 +13,7 @@ use Rattle.model.specs.Permission.{reading}
 use Rattle.model.specs.Counts.{for_increase, for_zero, count_of}
 use Rattle.model.specs.Events.{seen_at}
 use Rattle.model.specs.WholeSet.{each_from, each, shown_at, set_refused, set_checked, query_set}
+use Rattle.model.proofs.RefusalLaws.{errno_some}
 use Rattle.model.proofs.CheckLaws.{access_passes}
 use Rattle.model.proofs.Ones.{ones_mask}
 use Rattle.model.proofs.WholeSetLaws.{each_at, each_long, each_is}
@@ -43,9 +46,9 @@ refuses_set zero shown n = absurd (n refl)
 refuses_set (suc code) shown n = refl
 
 module _ (x : Host) (p : ℕ) (i : ℤ) where
-  pub set_refused_lem : {code : ℕ} → code ≡ check_read_all (state_in x) p i → (code ≡ 0 → ⊥) → set_refused code ≡ query_set (state_in x) p i
+  pub set_refused_lem : (refusal : Refusal) → errno_of refusal ≡ check_read_all (state_in x) p i → set_refused (errno_of refusal) ≡ query_set (state_in x) p i
   unfolding query_set
-  set_refused_lem {code} e z = rw (← e) (refuses_set code _ z)
+  set_refused_lem refusal e = rw (← e) (refuses_set (errno_of refusal) _ (errno_some refusal))
 
   pub set_small : check_read_all (state_in x) p i ≡ 0 → {slot : ℕ} → slot ≡ slot_of i → slot < slots
   set_small z e = omega (arith, e, (access_passes (state_in x) p i reading z).named.slot)

@@ -24,15 +24,14 @@ acted x k p user group z {r} {l} {told} er el et =
     (ap (λ (a : Row). record { row = a; adjustments = x.adjustments }) er ∙ caller_held x k.holds p (caller_passes (state_in x) p z).process c)
     ∙ ap after_of (goes_on (state_in x) _ z)
 
-pub check_caller-code-requires : goal.check_caller-code-requires
-check_caller-code-requires c = held_seated (host_in c.args.host.now c.args.adjustments.now) c.requires
+pub check_caller-requires : goal.check_caller-requires
+check_caller-requires c = held_seated (host_in c.args.host.now c.args.adjustments.now) c.requires
 
-pub returns-then-code-ne0 : goal.returns-then-code-ne0
+pub returns-in-Err : goal.returns-in-Err
 unfolding do_act_as
-returns-then-code-ne0 c =
-    refused_after (host_in c.args.host.now c.args.adjustments.now) c.requires _ (c.check_caller-code.ensures c.args.adjustments.now) c.if-code-ne0.true c.clear.ensures c.quiet.ensures
+returns-in-Err c = refused_after (host_in c.args.host.now c.args.adjustments.now) c.requires c.in-Err.refusal _ (c.in-Err.ensures c.args.adjustments.now) c.clear.ensures c.refused.ensures
 
 pub returns : goal.returns
 returns c =
-    acted (host_in c.args.host.now c.args.adjustments.now) c.requires _ _ _ (sym (c.check_caller-code.ensures c.args.adjustments.now) ∙ c.if-code-ne0.false)
-    c.put_caller.ensures c.clear.ensures c.quiet-2.ensures
+    acted (host_in c.args.host.now c.args.adjustments.now) c.requires _ _ _ (sym (c.in_default.ensures c.args.adjustments.now))
+    c.put_caller.ensures c.clear.ensures c.done.ensures

@@ -11,12 +11,11 @@ use Rattle.service.proofs.events.clock.clock.Goals.{After-put_time}
 
 -- the check found nothing
 none : (c : After-put_time) → check_clock (state_in (host_in c.args.host.now c.args.adjustments.now)) c.args.time ≡ 0
-none c = sym (c.check_clock-code.ensures c.args.adjustments.now) ∙ c.if-code-ne0.false
+none c = sym (c.in_default.ensures c.args.adjustments.now)
 
-pub returns-then-code-ne0 : goal.returns-then-code-ne0
+pub returns-in-Err : goal.returns-in-Err
 unfolding do_clock
-returns-then-code-ne0 c =
-    refused_after (host_in c.args.host.now c.args.adjustments.now) c.requires _ (c.check_clock-code.ensures c.args.adjustments.now) c.if-code-ne0.true c.clear.ensures c.quiet.ensures
+returns-in-Err c = refused_after (host_in c.args.host.now c.args.adjustments.now) c.requires c.in-Err.refusal _ (c.in-Err.ensures c.args.adjustments.now) c.clear.ensures c.refused.ensures
 
 pub end_all-woken-requires-clause-queue_held : goal.end_all-woken-requires-clause-queue_held
 end_all-woken-requires-clause-queue_held c =

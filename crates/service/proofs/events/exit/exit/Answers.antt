@@ -9,15 +9,10 @@ use Rattle.service_waking.specs.Lent.{Lent, Ready, treated_from}
 use Rattle.service.proofs.EventLaws.{held_invariant, held_seated, refused_after}
 use Rattle.service.proofs.events.exit.exit.Answers.Laws.{exit_process, exit_lent, exit_touched, exit_ready, exit_after, touched_size}
 use Rattle.service.proofs.events.exit.exit.Goals as goal
-use Rattle.service.proofs.events.exit.exit.Goals.{Else-code-ne0}
 
--- it is a process
-none : (c : Else-code-ne0) → check_process c.args.process ≡ 0
-none c = sym c.check_process-code.ensures ∙ c.if-code-ne0.false
-
-pub returns-then-code-ne0 : goal.returns-then-code-ne0
+pub returns-in-Err : goal.returns-in-Err
 unfolding do_exit
-returns-then-code-ne0 c = refused_after (host_in c.args.host.now c.args.adjustments.now) c.requires _ c.check_process-code.ensures c.if-code-ne0.true c.clear.ensures c.quiet.ensures
+returns-in-Err c = refused_after (host_in c.args.host.now c.args.adjustments.now) c.requires c.in-Err.refusal _ (c.in-Err.ensures) c.clear.ensures c.refused.ensures
 
 pub leave-requires : goal.leave-requires
 leave-requires c = held_seated (host_in c.args.host.now c.args.adjustments.now) c.requires
@@ -25,7 +20,7 @@ leave-requires c = held_seated (host_in c.args.host.now c.args.adjustments.now) 
 pub undo_all-touched-requires : goal.undo_all-touched-requires
 undo_all-touched-requires c =
     record {
-      process = exit_process _ (none (goal.at.undo_all-touched-requires c).Else-code-ne0);
+      process = exit_process _ (sym c.in_default.ensures);
       good = subst (λ (r : Row). Good (table_in (record { row = r; adjustments = c.args.adjustments.now }))) (sym c.leave.ensures.host_after)
           (held_invariant (host_in c.args.host.now c.args.adjustments.now) c.requires).good;
     }
@@ -33,7 +28,7 @@ undo_all-touched-requires c =
 pub wake_all-requires : goal.wake_all-requires
 wake_all-requires c =
     let x = host_in c.args.host.now c.args.adjustments.now in
-    let z = none (goal.at.wake_all-requires c).Else-code-ne0 in
+    let z = sym c.in_default.ensures in
     let gone = c.leave.ensures.host_after in
     let undone = c.undo_all-touched.ensures in
     let lent = exit_lent x c.requires _ z gone undone.adjustments_after c.clear.ensures in
@@ -45,7 +40,7 @@ wake_all-requires c =
 pub returns : goal.returns
 returns c =
     let x = host_in c.args.host.now c.args.adjustments.now in
-    let z = none (goal.at.returns c).Else-code-ne0 in
+    let z = sym c.in_default.ensures in
     let gone = c.leave.ensures.host_after in
     let undone = c.undo_all-touched.ensures in
     let lent = exit_lent x c.requires _ z gone undone.adjustments_after c.clear.ensures in

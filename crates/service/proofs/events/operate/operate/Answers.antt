@@ -31,7 +31,7 @@ made c = call (time_in (x c).row) c.args.process c.args.identifier c.args.wait c
 
 -- no check applies
 passes : (c : After-judge-verdict) → check_operate (state_in (x c)) c.args.process c.args.identifier c.args.bytes.now ≡ 0
-passes c = sym (rw (to_z-of_z c.ranges.identifier) at (c.check_operate-checked.ensures.code_value c.args.adjustments.now)) ∙ c.if-checked-ne0.false
+passes c = sym (rw (to_z-of_z c.ranges.identifier) at (c.in-Ok.ensures.code_value c.args.adjustments.now))
 
 slot : (c : After-judge-verdict) → c.slot_of-slot.result ≡ slot_of c.args.identifier
 slot c = rw (to_z-of_z c.ranges.identifier) at c.slot_of-slot.ensures
@@ -57,28 +57,26 @@ judged c = judged_as (table_in (x c)) (made c) _ _ _ _ _ _ refl (values-are c) (
 numbered : (c : After-judge-verdict) → Numbered c.args.bytes.now
 numbered c = call_numbered (x c) c.requires _ _ c.args.wait _ (passes c)
 
-names : (c : After-judge-verdict) → c.check_operate-checked.result.names ≡ named_by 0 (operations_of c.args.bytes.now)
-names c =
-    let z : c.check_operate-checked.result.code ≡ 0 = c.if-checked-ne0.false in
-    c.check_operate-checked.ensures.names_value ∙ ap (λ (n : ℕ). cond (eqb n 0) (named_within 0 (operations_of c.args.bytes.now)) 0) z ∙ named_within_lem 0 _ (numbered c)
+names : (c : After-judge-verdict) → c.in-Ok.names ≡ named_by 0 (operations_of c.args.bytes.now)
+names c = c.in-Ok.ensures.names_value ∙ named_within_lem 0 _ (numbered c)
 
 -- done: the table is as applying says
 table : (c : After-judge-verdict) {y : Host}
-    → y ≡ with_copies (x c) c.args.process c.slot_of-slot.result c.check_operate-checked.result.names (record { values = c.judge-verdict.new.values; adjustments = c.judge-verdict.new.adjustments })
+    → y ≡ with_copies (x c) c.args.process c.slot_of-slot.result c.in-Ok.names (record { values = c.judge-verdict.new.values; adjustments = c.judge-verdict.new.adjustments })
     → y ≡ tabled (x c) (applied (table_in (x c)) (made c) (record { values = c.judge-verdict.new.values; adjustments = c.judge-verdict.new.adjustments }))
 table c e =
     rw (slot c) at e
     ∙ copies_applied (x c) (sized_good (x c) (held_invariant (x c) c.requires).good) (made c) (slot_within c.args.identifier)
     (call_process (x c) c.requires _ _ c.args.wait _ (passes c)) (numbered c) _ c.judge-verdict.array_long c.judge-verdict.array_long2 _ (names c)
 
-pub check_operate-checked-requires : goal.check_operate-checked-requires
-check_operate-checked-requires c = held_seated (host_in c.args.host.now c.args.adjustments.now) c.requires
+pub check_operate-requires : goal.check_operate-requires
+check_operate-requires c = held_seated (host_in c.args.host.now c.args.adjustments.now) c.requires
 
-pub returns-then-checked-ne0 : goal.returns-then-checked-ne0
+pub returns-in-Err : goal.returns-in-Err
 unfolding do_operate
-returns-then-checked-ne0 c =
-    let code = rw (to_z-of_z c.ranges.identifier) at (c.check_operate-checked.ensures.code_value c.args.adjustments.now) in
-    refused_after (host_in c.args.host.now c.args.adjustments.now) c.requires _ code c.if-checked-ne0.true c.clear.ensures c.quiet.ensures
+returns-in-Err c =
+    let code = rw (to_z-of_z c.ranges.identifier) at (c.in-Err.ensures.code_value c.args.adjustments.now) in
+    refused_after (host_in c.args.host.now c.args.adjustments.now) c.requires c.in-Err.refusal _ code c.clear.ensures c.refused.ensures
 
 pub wake-requires : goal.wake-requires
 wake-requires c =

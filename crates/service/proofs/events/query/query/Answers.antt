@@ -5,29 +5,25 @@ use Rattle.host.specs.Holding.{host_in, state_in}
 use Rattle.service.proofs.EventLaws.{held_seated}
 use Rattle.service.proofs.QueryLaws.{query_refused, query_small, queried}
 use Rattle.service.proofs.events.query.query.Goals as goal
-use Rattle.service.proofs.events.query.query.Goals.{After-check_query-code, After-slot_of-slot}
-
--- the code
-code_is : (c : After-check_query-code) → c.check_query-code.result ≡ check_query (state_in (host_in c.args.host.now c.args.adjustments.now)) c.args.process c.args.identifier c.args.number
-code_is c = rw (to_z-of_z c.ranges.identifier) at (c.check_query-code.ensures c.args.adjustments.now)
+use Rattle.service.proofs.events.query.query.Goals.{After-slot_of-slot}
 
 -- the slot
 slot_is : (c : After-slot_of-slot) → c.slot_of-slot.result ≡ slot_of c.args.identifier
 slot_is c = rw (to_z-of_z c.ranges.identifier) at c.slot_of-slot.ensures
 
 passes : (c : After-slot_of-slot) → check_query (state_in (host_in c.args.host.now c.args.adjustments.now)) c.args.process c.args.identifier c.args.number ≡ 0
-passes c = sym (rw (to_z-of_z c.ranges.identifier) at (c.check_query-code.ensures c.args.adjustments.now)) ∙ c.if-code-ne0.false
+passes c = sym (rw (to_z-of_z c.ranges.identifier) at (c.in_default.ensures c.args.adjustments.now))
 
 small : (c : After-slot_of-slot) → (c.slot_of-slot.result < slots) × (c.args.number < semaphores)
 small c = query_small (host_in c.args.host.now c.args.adjustments.now) c.requires c.args.process c.args.identifier c.args.number (passes c) (slot_is c)
 
-pub check_query-code-requires : goal.check_query-code-requires
-check_query-code-requires c = held_seated (host_in c.args.host.now c.args.adjustments.now) c.requires
+pub check_query-requires : goal.check_query-requires
+check_query-requires c = held_seated (host_in c.args.host.now c.args.adjustments.now) c.requires
 
-pub returns-then-code-ne0 : goal.returns-then-code-ne0
-returns-then-code-ne0 c =
+pub returns-in-Err : goal.returns-in-Err
+returns-in-Err c =
     c.refused.ensures
-    ∙ query_refused (host_in c.args.host.now c.args.adjustments.now) c.requires c.args.process c.args.identifier c.args.number (code_is (goal.at.returns-then-code-ne0 c).After-check_query-code) c.if-code-ne0.true
+    ∙ query_refused (host_in c.args.host.now c.args.adjustments.now) c.requires c.args.process c.args.identifier c.args.number c.in-Err.refusal (rw (to_z-of_z c.ranges.identifier) at (c.in-Err.ensures c.args.adjustments.now))
 
 pub overflow_mul-at : goal.overflow_mul-at
 overflow_mul-at c = omega (arith, (small (goal.at.overflow_mul-at c).After-slot_of-slot).0)

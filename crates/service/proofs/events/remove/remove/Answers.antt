@@ -9,15 +9,12 @@ use Rattle.service_checks.proofs.FoundSets.{slot_within}
 use Rattle.service.proofs.EventLaws.{held_seated, refused_after}
 use Rattle.service.proofs.SlotLaws.{removed_row, removed}
 use Rattle.service.proofs.events.remove.remove.Goals as goal
-use Rattle.service.proofs.events.remove.remove.Goals.{After-check_remove-code, After-slot_of-slot, After-wrapping_add_u16, Else-code-ne0}
+use Rattle.service.proofs.events.remove.remove.Goals.{After-slot_of-slot, After-wrapping_add_u16}
 
 -- `service::events::remove::remove` meets its contract.
--- the code of the checks, and what they leave
-code : (c : After-check_remove-code) → c.check_remove-code.result ≡ check_remove (state_in (host_in c.args.host.now c.args.adjustments.now)) c.args.process c.args.identifier
-code c = rw (to_z-of_z c.ranges.identifier) at (c.check_remove-code.ensures c.args.adjustments.now)
-
-none : (c : Else-code-ne0) → check_remove (state_in (host_in c.args.host.now c.args.adjustments.now)) c.args.process c.args.identifier ≡ 0
-none c = sym (rw (to_z-of_z c.ranges.identifier) at (c.check_remove-code.ensures c.args.adjustments.now)) ∙ c.if-code-ne0.false
+-- no check applies
+none : (c : After-slot_of-slot) → check_remove (state_in (host_in c.args.host.now c.args.adjustments.now)) c.args.process c.args.identifier ≡ 0
+none c = sym (rw (to_z-of_z c.ranges.identifier) at (c.in_default.ensures c.args.adjustments.now))
 
 slot : (c : After-slot_of-slot) → c.slot_of-slot.result ≡ slot_of c.args.identifier
 slot c = rw (to_z-of_z c.ranges.identifier) at c.slot_of-slot.ensures
@@ -25,12 +22,12 @@ slot c = rw (to_z-of_z c.ranges.identifier) at c.slot_of-slot.ensures
 generation : (c : After-wrapping_add_u16) → c.wrapping_add_u16.result ≡ ((set_at (row_in c.args.host.now) c.slot_of-slot.result).generation + 1) % 65536
 generation c = c.wrapping_add_u16.ensures.value ∙ ap (λ (u : Set). (u.generation + 1) % 65536) c.set_at-old.ensures
 
-pub check_remove-code-requires : goal.check_remove-code-requires
-check_remove-code-requires c = held_seated (host_in c.args.host.now c.args.adjustments.now) c.requires
+pub check_remove-requires : goal.check_remove-requires
+check_remove-requires c = held_seated (host_in c.args.host.now c.args.adjustments.now) c.requires
 
-pub returns-then-code-ne0 : goal.returns-then-code-ne0
+pub returns-in-Err : goal.returns-in-Err
 unfolding do_remove
-returns-then-code-ne0 c = refused_after (host_in c.args.host.now c.args.adjustments.now) c.requires _ (code (goal.at.returns-then-code-ne0 c).After-check_remove-code) c.if-code-ne0.true c.clear.ensures c.quiet.ensures
+returns-in-Err c = refused_after (host_in c.args.host.now c.args.adjustments.now) c.requires c.in-Err.refusal _ (rw (to_z-of_z c.ranges.identifier) at (c.in-Err.ensures c.args.adjustments.now)) c.clear.ensures c.refused.ensures
 
 pub clear_slot-requires : goal.clear_slot-requires
 clear_slot-requires c = rw (slot (goal.at.clear_slot-requires c).After-slot_of-slot) (slot_within _)
@@ -38,12 +35,12 @@ clear_slot-requires c = rw (slot (goal.at.clear_slot-requires c).After-slot_of-s
 pub end_all-woken-requires-clause-queue_held : goal.end_all-woken-requires-clause-queue_held
 end_all-woken-requires-clause-queue_held c =
     let at = goal.at.end_all-woken-requires-clause-queue_held c in
-    removed_row (host_in c.args.host.now c.args.adjustments.now) c.requires _ _ (none at.Else-code-ne0) (slot at.After-slot_of-slot) (generation at.After-wrapping_add_u16) c.put_set.ensures c.clear_slot.ensures
+    removed_row (host_in c.args.host.now c.args.adjustments.now) c.requires _ _ (none at.After-slot_of-slot) (slot at.After-slot_of-slot) (generation at.After-wrapping_add_u16) c.put_set.ensures c.clear_slot.ensures
 
 pub returns : goal.returns
 unfolding mine
 returns c =
     let at = goal.at.returns c in
     let gone = c.end_all-woken.ensures (mine c.slot_of-slot.result) (λ h p b e. search rules) in
-    removed (host_in c.args.host.now c.args.adjustments.now) c.requires _ _ (none at.Else-code-ne0) (slot at.After-slot_of-slot) (generation at.After-wrapping_add_u16) c.put_set.ensures c.clear_slot.ensures
+    removed (host_in c.args.host.now c.args.adjustments.now) c.requires _ _ (none at.After-slot_of-slot) (slot at.After-slot_of-slot) (generation at.After-wrapping_add_u16) c.put_set.ensures c.clear_slot.ensures
     gone.host_after gone.wakings_after gone.value c.told.ensures

@@ -10,16 +10,13 @@ use Rattle.service_waking.specs.Lent.{treated}
 use Rattle.service.proofs.EventLaws.{held_seated, refused_after, begun, begun_ready}
 use Rattle.service.proofs.events.set_all.set_all.Answers.Laws.{all_few, all_lent, all_ready, all_after}
 use Rattle.service.proofs.events.set_all.set_all.Goals as goal
-use Rattle.service.proofs.events.set_all.set_all.Goals.{After-check_set_all-code, After-set_at-set, After-slot_of-slot, Else-code-ne0}
+use Rattle.service.proofs.events.set_all.set_all.Goals.{After-set_at-set, After-slot_of-slot}
 
 -- `service::events::set_all::set_all` meets its contract.
 
--- the code of the checks, and what they leave
-code : (c : After-check_set_all-code) → c.check_set_all-code.result ≡ check_set_all (state_in (host_in c.args.host.now c.args.adjustments.now)) c.args.process c.args.identifier c.args.values.now
-code c = rw (to_z-of_z c.ranges.identifier) at (c.check_set_all-code.ensures c.args.adjustments.now)
-
-none : (c : Else-code-ne0) → check_set_all (state_in (host_in c.args.host.now c.args.adjustments.now)) c.args.process c.args.identifier c.args.values.now ≡ 0
-none c = sym (rw (to_z-of_z c.ranges.identifier) at (c.check_set_all-code.ensures c.args.adjustments.now)) ∙ c.if-code-ne0.false
+-- no check applies
+none : (c : After-slot_of-slot) → check_set_all (state_in (host_in c.args.host.now c.args.adjustments.now)) c.args.process c.args.identifier c.args.values.now ≡ 0
+none c = sym (rw (to_z-of_z c.ranges.identifier) at (c.in_default.ensures c.args.adjustments.now))
 
 slot : (c : After-slot_of-slot) → c.slot_of-slot.result ≡ slot_of c.args.identifier
 slot c = rw (to_z-of_z c.ranges.identifier) at c.slot_of-slot.ensures
@@ -30,12 +27,12 @@ slot_is c = rw (slot c) (slot_within c.args.identifier)
 set_is : (c : After-set_at-set) → c.set_at-set.result ≡ get_or (sets_in (host_in c.args.host.now c.args.adjustments.now).row) (slot_of c.args.identifier) no_set
 set_is c = sym (set_found c.ranges.identifier (row_in c.args.host.now) c.slot_of-slot.ensures c.set_at-set.ensures)
 
-pub check_set_all-code-requires : goal.check_set_all-code-requires
-check_set_all-code-requires c = held_seated (host_in c.args.host.now c.args.adjustments.now) c.requires
+pub check_set_all-requires : goal.check_set_all-requires
+check_set_all-requires c = held_seated (host_in c.args.host.now c.args.adjustments.now) c.requires
 
-pub returns-then-code-ne0 : goal.returns-then-code-ne0
+pub returns-in-Err : goal.returns-in-Err
 unfolding do_set_all
-returns-then-code-ne0 c = refused_after (host_in c.args.host.now c.args.adjustments.now) c.requires _ (code (goal.at.returns-then-code-ne0 c).After-check_set_all-code) c.if-code-ne0.true c.clear.ensures c.quiet.ensures
+returns-in-Err c = refused_after (host_in c.args.host.now c.args.adjustments.now) c.requires c.in-Err.refusal _ (rw (to_z-of_z c.ranges.identifier) at (c.in-Err.ensures c.args.adjustments.now)) c.clear.ensures c.refused.ensures
 
 pub assign_all-requires : goal.assign_all-requires
 assign_all-requires c = slot_is (goal.at.assign_all-requires c).After-slot_of-slot
@@ -43,12 +40,12 @@ assign_all-requires c = slot_is (goal.at.assign_all-requires c).After-slot_of-sl
 pub every_number-touched-requires : goal.every_number-touched-requires
 every_number-touched-requires c =
     let at = goal.at.every_number-touched-requires c in
-    all_few (host_in c.args.host.now c.args.adjustments.now) c.requires _ _ c.args.values.now (none at.Else-code-ne0) (set_is at.After-set_at-set)
+    all_few (host_in c.args.host.now c.args.adjustments.now) c.requires _ _ c.args.values.now (none at.After-slot_of-slot) (set_is at.After-set_at-set)
 
 pub wake-requires : goal.wake-requires
 wake-requires c =
     let at = goal.at.wake-requires c in
-    let z = none at.Else-code-ne0 in
+    let z = none at.After-slot_of-slot in
     let lent = all_lent (host_in c.args.host.now c.args.adjustments.now) c.requires _ _ c.args.values.now z (slot at.After-slot_of-slot) c.assign_all.ensures c.clear.ensures in
     record {
       slot = slot_is at.After-slot_of-slot;
@@ -59,7 +56,7 @@ wake-requires c =
 pub returns : goal.returns
 returns c =
     let at = goal.at.returns c in
-    let z = none at.Else-code-ne0 in
+    let z = none at.After-slot_of-slot in
     let lent = all_lent (host_in c.args.host.now c.args.adjustments.now) c.requires _ _ c.args.values.now z (slot at.After-slot_of-slot) c.assign_all.ensures c.clear.ensures in
     all_after (host_in c.args.host.now c.args.adjustments.now) c.requires _ _ c.args.values.now z _ (slot at.After-slot_of-slot) (set_is at.After-set_at-set) c.every_number-touched.ensures
     (begun c.nobody.ensures lent (treated _ _ _) c.wake.ensures) c.told.ensures

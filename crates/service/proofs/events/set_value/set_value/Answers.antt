@@ -11,16 +11,13 @@ use Rattle.service_waking.proofs.ByProcess.{shifted}
 use Rattle.service.proofs.EventLaws.{held_seated, refused_after, begun, begun_ready}
 use Rattle.service.proofs.events.set_value.set_value.Answers.Laws.{value_kept, set_number, set_lent, set_ready, set_after}
 use Rattle.service.proofs.events.set_value.set_value.Goals as goal
-use Rattle.service.proofs.events.set_value.set_value.Goals.{After-check_set_value-code, After-slot_of-slot, After-value_of, Else-code-ne0}
+use Rattle.service.proofs.events.set_value.set_value.Goals.{After-slot_of-slot, After-value_of}
 
 -- `service::events::set_value::set_value` meets its contract.
 
--- the code of the checks, and what they leave
-code : (c : After-check_set_value-code) → c.check_set_value-code.result ≡ check_set_value (state_in (host_in c.args.host.now c.args.adjustments.now)) c.args.process c.args.identifier c.args.number c.args.value
-code c = rw (to_z-of_z c.ranges.identifier, to_z-of_z c.ranges.value) at (c.check_set_value-code.ensures c.args.adjustments.now)
-
-none : (c : Else-code-ne0) → check_set_value (state_in (host_in c.args.host.now c.args.adjustments.now)) c.args.process c.args.identifier c.args.number c.args.value ≡ 0
-none c = sym (rw (to_z-of_z c.ranges.identifier, to_z-of_z c.ranges.value) at (c.check_set_value-code.ensures c.args.adjustments.now)) ∙ c.if-code-ne0.false
+-- no check applies
+none : (c : After-slot_of-slot) → check_set_value (state_in (host_in c.args.host.now c.args.adjustments.now)) c.args.process c.args.identifier c.args.number c.args.value ≡ 0
+none c = sym (rw (to_z-of_z c.ranges.identifier, to_z-of_z c.ranges.value) at (c.in_default.ensures c.args.adjustments.now))
 
 slot : (c : After-slot_of-slot) → c.slot_of-slot.result ≡ slot_of c.args.identifier
 slot c = rw (to_z-of_z c.ranges.identifier) at c.slot_of-slot.ensures
@@ -28,33 +25,33 @@ slot c = rw (to_z-of_z c.ranges.identifier) at c.slot_of-slot.ensures
 slot_is : (c : After-slot_of-slot) → c.slot_of-slot.result < 4
 slot_is c = rw (slot c) (slot_within c.args.identifier)
 
-number_is : (c : Else-code-ne0) → c.args.number < semaphores
+number_is : (c : After-slot_of-slot) → c.args.number < semaphores
 number_is c = set_number (host_in c.args.host.now c.args.adjustments.now) c.requires _ _ _ _ (none c)
 
 -- the value as the conversion reads it is the number that was asked for
 value : (c : After-value_of) → c.value_of.result ≡ nat_abs c.args.value
-value c = c.value_of.ensures ∙ ap value_of (to_z-of_z c.ranges.value) ∙ value_kept (state_in (host_in c.args.host.now c.args.adjustments.now)) _ _ _ _ (sym (rw (to_z-of_z c.ranges.identifier, to_z-of_z c.ranges.value) at (c.check_set_value-code.ensures c.args.adjustments.now)) ∙ c.if-code-ne0.false)
+value c = c.value_of.ensures ∙ ap value_of (to_z-of_z c.ranges.value) ∙ value_kept (state_in (host_in c.args.host.now c.args.adjustments.now)) _ _ _ _ (sym (rw (to_z-of_z c.ranges.identifier, to_z-of_z c.ranges.value) at (c.in_default.ensures c.args.adjustments.now)))
 
-pub check_set_value-code-requires : goal.check_set_value-code-requires
-check_set_value-code-requires c = held_seated (host_in c.args.host.now c.args.adjustments.now) c.requires
+pub check_set_value-requires : goal.check_set_value-requires
+check_set_value-requires c = held_seated (host_in c.args.host.now c.args.adjustments.now) c.requires
 
-pub returns-then-code-ne0 : goal.returns-then-code-ne0
+pub returns-in-Err : goal.returns-in-Err
 unfolding do_set_value
-returns-then-code-ne0 c = refused_after (host_in c.args.host.now c.args.adjustments.now) c.requires _ (code (goal.at.returns-then-code-ne0 c).After-check_set_value-code) c.if-code-ne0.true c.clear.ensures c.quiet.ensures
+returns-in-Err c = refused_after (host_in c.args.host.now c.args.adjustments.now) c.requires c.in-Err.refusal _ (rw (to_z-of_z c.ranges.identifier, to_z-of_z c.ranges.value) at (c.in-Err.ensures c.args.adjustments.now)) c.clear.ensures c.refused.ensures
 
 pub assign-requires : goal.assign-requires
-assign-requires c = record { slot = slot_is (goal.at.assign-requires c).After-slot_of-slot; number = number_is (goal.at.assign-requires c).Else-code-ne0 }
+assign-requires c = record { slot = slot_is (goal.at.assign-requires c).After-slot_of-slot; number = number_is (goal.at.assign-requires c).After-slot_of-slot }
 
 pub overflow_cast-touched : goal.overflow_cast-touched
-overflow_cast-touched c = omega (arith, number_is (goal.at.overflow_cast-touched c).Else-code-ne0)
+overflow_cast-touched c = omega (arith, number_is (goal.at.overflow_cast-touched c).After-slot_of-slot)
 
 pub overflow_shl-touched : goal.overflow_shl-touched
-overflow_shl-touched c = omega (arith, number_is (goal.at.overflow_shl-touched c).Else-code-ne0)
+overflow_shl-touched c = omega (arith, number_is (goal.at.overflow_shl-touched c).After-slot_of-slot)
 
 pub wake-requires : goal.wake-requires
 wake-requires c =
     let at = goal.at.wake-requires c in
-    let z = none at.Else-code-ne0 in
+    let z = none at.After-slot_of-slot in
     let lent = set_lent (host_in c.args.host.now c.args.adjustments.now) c.requires _ _ _ _ z (rw (slot at.After-slot_of-slot, value at.After-value_of) at c.assign.ensures) c.clear.ensures in
     record {
       slot = slot_is at.After-slot_of-slot;
@@ -65,7 +62,7 @@ wake-requires c =
 pub returns : goal.returns
 returns c =
     let at = goal.at.returns c in
-    let z = none at.Else-code-ne0 in
+    let z = none at.After-slot_of-slot in
     let lent = set_lent (host_in c.args.host.now c.args.adjustments.now) c.requires _ _ _ _ z (rw (slot at.After-slot_of-slot, value at.After-value_of) at c.assign.ensures) c.clear.ensures in
-    set_after (host_in c.args.host.now c.args.adjustments.now) c.requires _ _ _ _ z _ (slot at.After-slot_of-slot) (shifted _ (number_is at.Else-code-ne0))
+    set_after (host_in c.args.host.now c.args.adjustments.now) c.requires _ _ _ _ z _ (slot at.After-slot_of-slot) (shifted _ (number_is at.After-slot_of-slot))
     (begun c.nobody.ensures lent (treated _ _ _) c.wake.ensures) c.told.ensures

@@ -7,15 +7,10 @@ use Rattle.host.specs.Holding.{Host, host_in}
 use Rattle.service.proofs.EventLaws.{held_seated, refused_after}
 use Rattle.service.proofs.events.signal.signal.Answers.Laws.{signal_awake, signal_asleep}
 use Rattle.service.proofs.events.signal.signal.Goals as goal
-use Rattle.service.proofs.events.signal.signal.Goals.{Else-code-ne0}
 
--- it is a process
-none : (c : Else-code-ne0) → check_process c.args.process ≡ 0
-none c = sym c.check_process-code.ensures ∙ c.if-code-ne0.false
-
-pub returns-then-code-ne0 : goal.returns-then-code-ne0
+pub returns-in-Err : goal.returns-in-Err
 unfolding do_signal
-returns-then-code-ne0 c = refused_after (host_in c.args.host.now c.args.adjustments.now) c.requires _ c.check_process-code.ensures c.if-code-ne0.true c.clear.ensures c.quiet.ensures
+returns-in-Err c = refused_after (host_in c.args.host.now c.args.adjustments.now) c.requires c.in-Err.refusal _ (c.in-Err.ensures) c.clear.ensures c.refused.ensures
 
 pub leave-requires : goal.leave-requires
 leave-requires c = held_seated (host_in c.args.host.now c.args.adjustments.now) c.requires
@@ -23,9 +18,9 @@ leave-requires c = held_seated (host_in c.args.host.now c.args.adjustments.now) 
 pub returns-then-not-leave : goal.returns-then-not-leave
 returns-then-not-leave c =
     let l = c.leave.ensures in
-    signal_awake (host_in c.args.host.now c.args.adjustments.now) c.requires _ (none (goal.at.returns-then-not-leave c).Else-code-ne0) (sym l.value ∙ c.if-not-leave.true) l.host_after c.clear.ensures c.quiet-then-not-leave.ensures
+    signal_awake (host_in c.args.host.now c.args.adjustments.now) c.requires _ (sym c.in_default.ensures) (sym l.value ∙ c.if-not-leave.true) l.host_after c.clear.ensures c.done.ensures
 
 pub returns : goal.returns
 returns c =
     let l = c.leave.ensures in
-    signal_asleep (host_in c.args.host.now c.args.adjustments.now) c.requires _ (none (goal.at.returns c).Else-code-ne0) (sym l.value ∙ c.if-not-leave.false) l.host_after c.clear.ensures c.note.ensures c.told.ensures
+    signal_asleep (host_in c.args.host.now c.args.adjustments.now) c.requires _ (sym c.in_default.ensures) (sym l.value ∙ c.if-not-leave.false) l.host_after c.clear.ensures c.note.ensures c.told.ensures
