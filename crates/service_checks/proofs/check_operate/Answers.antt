@@ -18,7 +18,6 @@ use Rattle.service_checks.proofs.FoundSets.{passed_on, names_found, set_found}
 use Rattle.service_checks.proofs.check_operate.Goals as goal
 use Rattle.service_checks.proofs.check_operate.Goals.{After-may-alters, After-names_set, After-set_at-set, After-no_array, Else-bytes-gt-ARRAY_BYTES}
 
--- what the checks found
 -- the caller is a process, and awake
 awake : (c : After-no_array) (a : List ℤ) → check_caller (state_in (host_in c.args.host.now a)) c.args.process ≡ 0
 awake c a = sym (c.in_ok-check_caller.ensures a)
