@@ -1,86 +1,49 @@
--- The values of a setting, one at a time, as a loop over their bytes reads them.
-use mathlib.Core.Path.{◌≡◌, refl, sym, ap, ap₂, ◌∙◌}
-use mathlib.Core.Bool.{Bool, true, false, cond, ◌&&◌}
-use mathlib.Core.List.{List, [], ◌∷◌}
-use Prim.Native.Nat.{ℕ, zero, suc, ◌+◌, ◌*◌, ◌-◌, ◌/◌, ◌≤◌, ◌<◌}
+-- The values of a setting, in the bytes that hold them.
+use mathlib.Core.Path.{◌≡◌, refl, ap, ap₂, ◌∙◌}
+use mathlib.Core.Bool.{Bool, true, ◌&&◌}
+use mathlib.Core.List.{List, [], ◌∷◌, map}
+use Prim.Native.Nat.{ℕ, zero, suc, ◌+◌, ◌*◌, ◌/◌, ◌≤◌, ◌<◌}
 use native.Mathlib.Omega.{arith}
-use native.Mathlib.Decide.{dec_lt}
-use lib.Dec.{eqb, leb, ltb}
-use lib.ListN.{length, get_or}
-use lib.IntN.{ℤ, pos, negsuc}
-use borrow.Author.Tests.{lt-ltb, le-ltb, lt-leb, eq-eqb, ne_eqb}
-use Rattle.model.specs.Limits.{value_max, value_bytes}
-use Rattle.model.specs.Operation.{two}
+use lib.ListN.{length, get_or, take, drop}
+use lib.IntN.{ℤ}
+use Rattle.std.specs.List.{list_all}
+use Rattle.std.specs.Simd.{first_chunks}
+use Rattle.std.proofs.lemmas.List.{drop-drop}
+use Rattle.std.proofs.lemmas.Simd.{get_or-chunk}
+use Rattle.model.specs.Limits.{value_bytes}
 use Rattle.model.specs.Checks.{in_range, all_in_range}
-use Rattle.model.specs.Values.{four, signed32, value_at, values_from, values_in, held}
+use Rattle.model.specs.Values.{value_at, values_from, values_in, held}
 use Rattle.model.proofs.CheckLaws.{and_true}
 use Rattle.judging.specs.Value.{value_of, values_held}
+use Rattle.judging.proofs.Pieces.{byte_is}
 
--- ---- a value by its halves
+-- ---- by the pieces of four bytes that they are cut into
 
--- one whose upper half is 0 is its lower half
-low_alone : (low : ℕ) → low < 65536 → signed32 (four low 0) ≡ pos low
-unfolding signed32
-low_alone low h = let e : low + 65536 * 0 ≡ low = omega arith in rw (e, lt-ltb low 2147483648 (omega arith))
+pub of_piece : (bytes : List ℕ) (pieces : List (List ℕ)) (i : ℕ) (d : List ℕ) → pieces ≡ first_chunks 4 (length bytes / 4) bytes → i < length bytes / 4 → value_at (get_or pieces i d) 0 ≡ value_at bytes (i * 4)
+of_piece bytes pieces i d cut h =
+    let e : i * 4 + 0 ≡ i * 4 = omega arith in
+    let byte : (j : ℕ) → j < 4 → get_or (get_or pieces i d) j 0 ≡ get_or bytes (i * 4 + j) 0 = byte_is 4 (length bytes / 4) i bytes d pieces cut h in
+    rw (byte 0 (omega arith), byte 1 (omega arith), byte 2 (omega arith), byte 3 (omega arith), e)
 
--- one with more is out of range
-high_out : (low high : ℕ) → in_range (signed32 (four low (suc high))) ≡ false
-unfolding signed32 in_range
-high_out low high = go (dec_lt (four low (suc high)) 2147483648)
-  where
-    go : Dec (four low (suc high) < 2147483648) → in_range (cond (ltb (four low (suc high)) 2147483648) (pos (four low (suc high))) (negsuc (4294967295 - four low (suc high)))) ≡ false
-    go (yes lt) = rw (lt-ltb _ _ lt) (lt-leb (four low (suc high)) value_max (omega arith))
-    go (no ge) = rw (le-ltb (four low (suc high)) 2147483648 (omega arith))
+abbrev of_pieces : List (List ℕ) → List ℤ
+of_pieces pieces = map (λ (p : List ℕ). value_at p 0) pieces
 
-by_halves : (low high : ℕ) → low < 65536 → eqb high 0 && leb low value_max ≡ in_range (signed32 (four low high))
-unfolding in_range
-by_halves low zero h = rw (low_alone low h)
-by_halves low (suc high) h = rw (ne_eqb (suc high) 0 (λ e. omega (arith, e))) (sym (high_out low high))
+pieces_from : (bytes : List ℕ) (at k : ℕ) → of_pieces (first_chunks 4 k (drop at bytes)) ≡ values_from bytes at k
+unfolding values_from
+pieces_from bytes at zero = refl
+pieces_from bytes at (suc k) =
+    let e : drop 4 (drop at bytes) ≡ drop (at + 4) bytes = drop-drop 4 at bytes in
+    let byte : (j : ℕ) → j < 4 → get_or (take 4 (drop at bytes)) j 0 ≡ get_or bytes (at + j) 0 = λ j l. get_or-chunk at 4 bytes j 0 l in
+    let z : at + 0 ≡ at = omega arith in
+    ap₂ ◌∷◌ (rw (byte 0 (omega arith), byte 1 (omega arith), byte 2 (omega arith), byte 3 (omega arith), z)) (ap (λ (l : List ℕ). of_pieces (first_chunks 4 k l)) e ∙ pieces_from bytes (at + 4) k)
 
--- .. as they were read
-module _ (bytes : List ℕ) (at : ℕ) {low high : ℕ} (l : low ≡ two (get_or bytes at 0) (get_or bytes (at + 1) 0)) (u : high ≡ two (get_or bytes (at + 2) 0) (get_or bytes (at + 3) 0)) (fits : low < 65536) where
-  value_is : signed32 (four low high) ≡ value_at bytes at
-  value_is = ap₂ (λ (a b : ℕ). signed32 (four a b)) l u
+each_in_range : (pieces : List (List ℕ)) → list_all (λ (p : List ℕ). in_range (value_at p 0)) pieces ≡ all_in_range (of_pieces pieces)
+unfolding all_in_range
+each_in_range [] = refl
+each_in_range (p ∷ ps) = ap (λ (b : Bool). in_range (value_at p 0) && b) (each_in_range ps)
 
-  pub low_tests : high ≡ 0 → leb low value_max ≡ in_range (value_at bytes at)
-  low_tests z = ap (λ (b : Bool). b && leb low value_max) (sym (eq-eqb high 0 z)) ∙ by_halves low high fits ∙ ap in_range value_is
-
-  pub high_tests : (high ≡ 0 → ⊥) → eqb high 0 ≡ in_range (value_at bytes at)
-  high_tests n = ne_eqb high 0 n ∙ ap (λ (b : Bool). b && leb low value_max) (sym (ne_eqb high 0 n)) ∙ by_halves low high fits ∙ ap in_range value_is
-
--- ---- the values from the i-th on
-
-abbrev pub values_rest : List ℕ → ℕ → List ℤ
-values_rest bytes i = values_from bytes (i * value_bytes) (length bytes / value_bytes - i)
-
-module _ (bytes : List ℕ) where
-  pub values_all : values_rest bytes 0 ≡ values_in bytes
-  values_all = let e : length bytes / value_bytes - 0 ≡ length bytes / value_bytes = omega arith in rw e
-
-  pub values_first : (i : ℕ) → i < length bytes / value_bytes → values_rest bytes i ≡ value_at bytes (i * value_bytes) ∷ values_rest bytes (i + 1)
-  unfolding values_from
-  values_first i h =
-      let e : length bytes / value_bytes - i ≡ suc (length bytes / value_bytes - (i + 1)) = omega arith in
-      let f : i * value_bytes + value_bytes ≡ (i + 1) * value_bytes = omega arith in
-      rw (e, f)
-
-  pub values_none : (i : ℕ) → length bytes / value_bytes ≤ i → values_rest bytes i ≡ []
-  unfolding values_from
-  values_none i h = let e : length bytes / value_bytes - i ≡ 0 = omega arith in rw e
-
-  -- one value more
-  module _ (i : ℕ) (h : i < length bytes / value_bytes) where
-    pub range_on : in_range (value_at bytes (i * value_bytes)) ≡ true → all_in_range (values_rest bytes (i + 1)) ≡ all_in_range (values_rest bytes i)
-    unfolding all_in_range
-    range_on e = rw (values_first i h, e)
-
-    pub range_out : in_range (value_at bytes (i * value_bytes)) ≡ false → false ≡ all_in_range (values_rest bytes i)
-    unfolding all_in_range
-    range_out e = rw (values_first i h, e)
-
-  pub range_end : (i : ℕ) → length bytes / value_bytes ≤ i → true ≡ all_in_range (values_rest bytes i)
-  unfolding all_in_range
-  range_end i h = rw (values_none i h)
+pub pieces_in_range : (bytes : List ℕ) (pieces : List (List ℕ)) → pieces ≡ first_chunks 4 (length bytes / 4) bytes → list_all (λ (p : List ℕ). in_range (value_at p 0)) pieces ≡ all_in_range (values_in bytes)
+pieces_in_range bytes pieces cut = each_in_range pieces ∙ ap all_in_range (rw cut (pieces_from bytes 0 (length bytes / 4)))
 
 -- ---- as semaphores hold them
 
@@ -116,16 +79,3 @@ value_beyond bytes at (suc n) (suc i) h = value_beyond bytes (at + value_bytes) 
 
 pub value_none : (bytes : List ℕ) (i : ℕ) → length bytes / value_bytes ≤ i → get_or (values_held (values_in bytes)) i 0 ≡ 0
 value_none bytes i h = value_beyond bytes 0 (length bytes / value_bytes) i h
-
--- one in range is its lower half
-value_low : (low high : ℕ) → low < 65536 → in_range (signed32 (four low high)) ≡ true → low ≡ value_of (signed32 (four low high))
-unfolding value_of in_range
-value_low low zero h e = rw (low_alone low h) (let t : leb low value_max ≡ true = rw (low_alone low h) at e in rw t)
-value_low low (suc high) h e = let z : ◌≡◌ {A = ℕ} 0 1 = cc (high_out low high) in absurd (omega arith)
-
-pub value_read : (bytes : List ℕ) (at : ℕ) {low : ℕ} → low ≡ two (get_or bytes at 0) (get_or bytes (at + 1) 0) → low < 65536 → in_range (value_at bytes at) ≡ true → low ≡ value_of (value_at bytes at)
-value_read bytes at l fits e = l ∙ value_low _ (two (get_or bytes (at + 2) 0) (get_or bytes (at + 3) 0)) (rw l at fits) e
-
-pub value_out : (v : ℤ) → in_range v ≡ false → value_of v ≡ 0
-unfolding value_of
-value_out v e = rw e

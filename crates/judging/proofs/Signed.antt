@@ -118,7 +118,3 @@ at_most (negsuc m) (negsuc n) false e = lt-ltb m n (leb-false n m e)
 pub unsigned : (z : ℤ) → lt_z z (pos 0) ≡ false → lt_z (pos 32767) z ≡ false → T (non_neg z) × Fits w16 (nat_abs z)
 unsigned (pos n) h k = (tt, record { fits = omega (arith, ltb-false 32767 n k) })
 unsigned (negsuc n) h k = clash (sym h)
-
--- sixteen bits, less 2 ^ 16
-pub minus_full : (n : ℕ) → n < 65536 → pos n -ℤ pos 65536 ≡ negsuc (65535 - n)
-minus_full n h = let e : 65536 - suc n ≡ 65535 - n = omega arith in rw (lt-ltb n 65536 h) (ap negsuc e)

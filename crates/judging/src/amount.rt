@@ -1,7 +1,7 @@
 // What an amount makes of a value and of an adjustment. Sums and magnitudes are taken in 32 bits, where none of them wraps:
 // the magnitude of -32,768 is 32,768.
 ghost use Rattle.std.specs.Prelude.{◌≡◌, pos, ◌+ℤ◌};
-ghost use Rattle.model.specs.Operation.{is_zero, is_negative};
+ghost use Rattle.model.specs.Operation.{is_negative};
 ghost use Rattle.model.specs.Judge.{next_value, next_adjustment};
 ghost use Rattle.model.specs.Events.{cut as cut_to};
 
@@ -12,16 +12,10 @@ pub const MOST: i32 = VALUE_MAX as i32;
 
 const LEAST: i32 = -MOST;
 
-pub fn is_zero(amount: i16) -> bool
-    ensures { result ≡ is_zero amount }
-{
-    amount == 0
-}
-
 pub fn is_negative(amount: i16) -> bool
     ensures { result ≡ is_negative amount }
 {
-    amount < 0
+    amount.is_negative()
 }
 
 // The value with the amount added: below 0 if the value is smaller than the magnitude of an amount below 0.

@@ -5,16 +5,15 @@ ghost use Rattle.model.specs.Operation.{operations_of, is_zero};
 ghost use Rattle.model.specs.Checks.{check, number_too_high, permitted};
 ghost use Rattle.judging.specs.Named.{named_within};
 
-use crate::amount::is_zero;
 use crate::named::number_bit;
-use crate::operation::operation_at;
+use crate::operation::operation_of;
 use model::{OPERATION_BYTES, Refusal};
 
 // May one who reads and alters so do an operation of this amount?
 fn may(amount: i16, reads: bool, alters: bool) -> bool
     ensures { result ≡ cond (is_zero amount) reads alters }
 {
-    if is_zero(amount) { reads } else { alters }
+    if amount == 0 { reads } else { alters }
 }
 
 // The checks of the operations, in one walk: 27 for a number at or above the count, else 13 for one who may not do what they need.
@@ -24,21 +23,19 @@ pub fn check_array(count: u8, reads: bool, alters: bool, bytes: &[u8]) -> Result
     ensures names_value { IfOk result (λ names. names ≡ named_within 0 (operations_of bytes.now)) }
 {
     let both = reads & alters;
-    let past = count as u16;
-    let operations = bytes.len() / OPERATION_BYTES;
+    let past = u16::from(count);
+    let (pieces, _) = bytes.as_chunks::<OPERATION_BYTES>();
     let mut allowed = true;
     let mut names: u8 = 0;
-    let mut i: usize = 0;
-    while i < operations {
-        let operation = operation_at(bytes, i * OPERATION_BYTES);
+    for piece in pieces {
+        let operation = operation_of(piece);
         if past <= operation.number {
             return Err(Refusal::NumberTooHigh);
         }
-        names = names | number_bit(operation.number);
+        names |= number_bit(operation.number);
         if !both {
-            allowed = allowed & may(operation.amount, reads, alters);
+            allowed &= may(operation.amount, reads, alters);
         }
-        i += 1;
     }
     if allowed {
         Ok(names)

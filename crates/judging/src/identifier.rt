@@ -10,10 +10,9 @@ use model::SETS;
 pub fn slot_of(identifier: i32) -> usize
     ensures { result ≡ slot_of identifier }
 {
-    if identifier < 0 {
-        0
-    } else {
-        (identifier as usize) % SETS
+    match usize::try_from(identifier) {
+        Ok(identifier) => identifier % SETS,
+        Err(_) => 0,
     }
 }
 
@@ -21,7 +20,7 @@ pub fn slot_of(identifier: i32) -> usize
 pub fn in_range(value: i32) -> bool
     ensures { result ≡ in_range value }
 {
-    if value < 0 { false } else { value <= MOST }
+    0 <= value && value <= MOST
 }
 
 // A value in range as a semaphore holds it; 0 for any other.
@@ -35,5 +34,5 @@ pub fn value_of(value: i32) -> u16
 pub fn answer(code: u8) -> i32
     ensures { result ≡ pos code }
 {
-    code as i32
+    i32::from(code)
 }

@@ -1,52 +1,31 @@
 // An operation from its six bytes, little-endian: number, amount (signed), flags.
-ghost use Rattle.std.specs.Prelude.{◌≡◌, ◌+◌, ◌≤◌, length};
-ghost use Rattle.model.specs.Operation.{two, signed16, operation_at, has_bit};
+ghost use Rattle.std.specs.Prelude.{◌≡◌};
+ghost use Rattle.model.specs.Operation.{operation_at, has_bit};
 
-use model::Operation;
+use model::{OPERATION_BYTES, Operation};
 
-// Two bytes.
-pub fn half(low: u8, high: u8) -> u16
-    ensures { result ≡ two low high }
+// The flags that count; other bits are ignored.
+pub const IPC_NOWAIT: u16 = 2048;
+
+pub const SEM_UNDO: u16 = 4096;
+
+// The operation that the six bytes hold.
+pub fn operation_of(bytes: &[u8; OPERATION_BYTES]) -> Operation
+    ensures { result ≡ operation_at bytes.now 0 }
 {
-    (low as u16) + 256 * (high as u16)
-}
-
-// Sixteen bits as a signed number.
-fn signed_of(raw: u16) -> i16
-    ensures { result ≡ signed16 raw }
-{
-    if raw < 32768 {
-        raw as i16
-    } else {
-        ((raw as i32) - 65536) as i16
-    }
-}
-
-// The operation whose six bytes begin at `at`.
-pub fn operation_at(bytes: &[u8], at: usize) -> Operation
-    requires { at + 6 ≤ length bytes.now }
-    ensures { result ≡ operation_at bytes.now at }
-{
-    let number = half(bytes[at], bytes[at + 1]);
-    let amount = signed_of(half(bytes[at + 2], bytes[at + 3]));
-    let flags = half(bytes[at + 4], bytes[at + 5]);
+    let number = u16::from_le_bytes([bytes[0], bytes[1]]);
+    let amount = i16::from_le_bytes([bytes[2], bytes[3]]);
+    let flags = u16::from_le_bytes([bytes[4], bytes[5]]);
     Operation {
-        number: number,
-        amount: amount,
-        flags: flags,
+        number,
+        amount,
+        flags,
     }
 }
 
-// IPC_NOWAIT.
-pub fn no_wait(flags: u16) -> bool
-    ensures { result ≡ has_bit flags 2048 }
+// Is one of the bits on?
+pub fn has(flags: u16, bit: u16) -> bool
+    ensures { result ≡ has_bit flags bit }
 {
-    flags & 2048 != 0
-}
-
-// SEM_UNDO.
-pub fn with_undo(flags: u16) -> bool
-    ensures { result ≡ has_bit flags 4096 }
-{
-    flags & 4096 != 0
+    flags & bit != 0
 }

@@ -7,7 +7,7 @@ ghost use Rattle.judging.specs.Stop.{stop_from};
 
 use crate::amount::moved;
 use crate::identifier::{in_range, value_of};
-use crate::operation::operation_at;
+use crate::operation::operation_of;
 use model::{OPERATION_BYTES, SEMAPHORES};
 
 // An operation that stops: its number within a set, and its amount.
@@ -24,10 +24,9 @@ pub fn stop_of(values: &mut [u16; SEMAPHORES], bytes: &[u8]) -> Stop
     ensures amount_value { result.amount ≡ (stop_from (operations_of bytes.now) values.old).operation.amount }
     ensures values_after { values.new ≡ (stop_from (operations_of bytes.now) values.old).values }
 {
-    let count = bytes.len() / OPERATION_BYTES;
-    let mut i: usize = 0;
-    while i < count {
-        let operation = operation_at(bytes, i * OPERATION_BYTES);
+    let (pieces, _) = bytes.as_chunks::<OPERATION_BYTES>();
+    for piece in pieces {
+        let operation = operation_of(piece);
         let number = operation.number % (SEMAPHORES as u16);
         let amount = operation.amount;
         let value = values[number as usize];
@@ -48,7 +47,6 @@ pub fn stop_of(values: &mut [u16; SEMAPHORES], bytes: &[u8]) -> Stop
             }
             values[number as usize] = value_of(new);
         }
-        i += 1;
     }
     Stop {
         number: 0,

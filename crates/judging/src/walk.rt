@@ -8,7 +8,7 @@ ghost use Rattle.model.specs.Judge.{judged, step};
 ghost use Rattle.judging.specs.Walk.{copies, stopped as stopped_by, walk_from};
 
 use crate::amount::{is_negative, next_adjustment, next_value};
-use crate::operation::{no_wait, operation_at, with_undo};
+use crate::operation::{IPC_NOWAIT, SEM_UNDO, has, operation_of};
 use model::{Halt, OPERATION_BYTES, Operation, Outcome, SEMAPHORES};
 
 // The outcome, and the position of the operation that decided.
@@ -22,7 +22,7 @@ pub struct Verdict {
 fn stopped(flags: u16) -> Outcome
     ensures { result ≡ stopped_by flags }
 {
-    if no_wait(flags) {
+    if has(flags, IPC_NOWAIT) {
         Outcome::Again
     } else {
         Outcome::Sleep
@@ -61,7 +61,7 @@ fn operate(
         Err(Halt::Over) => Outcome::Range,
         Err(Halt::Stop) => stopped(operation.flags),
         Ok(new) => {
-            if with_undo(operation.flags) {
+            if has(operation.flags, SEM_UNDO) {
                 match next_adjustment(adjustments[number], amount) {
                     None => {
                         return Outcome::Range;
@@ -85,24 +85,15 @@ pub fn judge(
 ) -> Verdict
     ensures { judged result.outcome result.position (copies values.new adjustments.new) ≡ walk_from (operations_of bytes.now) (copies values.old adjustments.old) 0 }
 {
-    let count = bytes.len() / OPERATION_BYTES;
-    let mut i: usize = 0;
-    while i < count {
-        let operation = operation_at(bytes, i * OPERATION_BYTES);
-        let outcome = operate(values, adjustments, operation);
-        match outcome {
+    let (pieces, _) = bytes.as_chunks::<OPERATION_BYTES>();
+    for (position, piece) in pieces.iter().enumerate() {
+        match operate(values, adjustments, operation_of(piece)) {
             Outcome::Done => {}
-            _ => {
-                return Verdict {
-                    outcome: outcome,
-                    position: i,
-                };
-            }
+            outcome => return Verdict { outcome, position },
         }
-        i += 1;
     }
     Verdict {
         outcome: Outcome::Done,
-        position: count,
+        position: pieces.len(),
     }
 }

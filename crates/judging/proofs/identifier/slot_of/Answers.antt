@@ -1,13 +1,10 @@
 use mir.Facts.{to_z-of_z}
-use Rattle.model.specs.Checks.{slot_of}
-use Rattle.judging.proofs.Identifiers.{natural, negative}
+use Rattle.judging.proofs.Identifiers.{slot_found, slot_none}
 use Rattle.judging.proofs.identifier.slot_of.Goals as goal
 
 -- By the sign.
-pub returns-then-identifier-lt0 : goal.returns-then-identifier-lt0
-unfolding slot_of
-returns-then-identifier-lt0 c = rw (negative c.ranges.identifier c.if-identifier-lt0.true)
+pub returns-in-Ok : goal.returns-in-Ok
+returns-in-Ok c = let t = rw (to_z-of_z c.ranges.identifier) at c.in-Ok.ensures in slot_found c.args.identifier t.0 t.1
 
-pub returns-else-identifier-lt0 : goal.returns-else-identifier-lt0
-unfolding slot_of
-returns-else-identifier-lt0 c = rw (to_z-of_z c.ranges.identifier, natural c.ranges.identifier c.if-identifier-lt0.false)
+pub returns-in-Err : goal.returns-in-Err
+returns-in-Err c = slot_none c.args.identifier c.ranges.identifier (rw (to_z-of_z c.ranges.identifier) at c.in-Err.ensures)

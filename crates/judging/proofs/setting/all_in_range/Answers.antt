@@ -1,14 +1,13 @@
-use mathlib.Core.Path.{sym, ◌∙◌}
-use native.Mathlib.Omega.{arith}
-use Rattle.judging.proofs.Settings.{range_on, range_out, range_end}
-use borrow.Author.Rules.{rules}
+use Rattle.std.proofs.Common.{List, ℕ, ◌∙◌, rules, tests}
+use Rattle.std.proofs.lemmas.Iterator.{YieldsList-from_slice}
+use Rattle.std.proofs.lemmas.Int.{to_z-of_z}
+use Rattle.std.proofs.lemmas.Iterator.Search.{all_from_yields_List}
+use Rattle.model.specs.Checks.{in_range}
+use Rattle.model.specs.Values.{value_at}
+use Rattle.judging.proofs.Settings.{pieces_in_range}
 use Rattle.judging.proofs.setting.all_in_range.Goals as goal
 
-pub returns-then-not-small_at : goal.returns-then-not-small_at
-returns-then-not-small_at c = range_out _ c.loop-i.i c.loop-i-test.true (sym c.small_at.ensures ∙ c.if-not-small_at.true) ∙ c.loop-i.invariant.1
-
-pub loop-i-preserved : goal.loop-i-preserved
-loop-i-preserved c = (search rules, range_on _ c.loop-i.i c.loop-i-test.true (sym c.small_at.ensures ∙ c.if-not-small_at.false) ∙ c.loop-i.invariant.1)
-
 pub returns : goal.returns
-returns c = range_end _ c.loop-i.i (omega arith) ∙ c.loop-i.invariant.1
+returns c =
+    all_from_yields_List (λ (p : List ℕ). in_range (value_at p 0)) _ _ _ c.all.ensures.ran (YieldsList-from_slice c.as_chunks.result.0.now c.iter.ensures.rest) (λ x b q k. search (rules, tests, to_z-of_z))
+    ∙ pieces_in_range c.args.bytes.now c.as_chunks.result.0.now c.as_chunks.ensures.front

@@ -1,16 +1,25 @@
-use Prim.Native.Nat.{◌*◌}
-use mathlib.Core.Path.{sym, ◌∙◌}
+use mathlib.Core.Path.{◌∙◌, sym, ap}
+use native.Mathlib.Omega.{arith}
 use borrow.Author.Rules.{rules}
-use Rattle.model.specs.Limits.{value_bytes}
-use Rattle.model.specs.Values.{value_at}
-use Rattle.judging.proofs.Settings.{value_first, value_none, value_read, value_out}
+use mir.Syntax.{w32}
+use mir.Val.{SFits}
+use mir.Facts.{to_z-of_z}
+use Prim.Native.Nat.{◌/◌, ◌<◌}
+use lib.ListN.{length}
+use mathlib.Core.List.{[]}
+use Rattle.judging.specs.Value.{value_of}
+use Rattle.judging.proofs.Settings.{of_piece, value_first, value_none}
 use Rattle.judging.proofs.setting.value_in.Goals as goal
 
-pub returns-then-small_at : goal.returns-then-small_at
-returns-then-small_at c = value_read c.args.bytes.now _ c.half.ensures (search rules) (sym c.small_at.ensures ∙ c.if-small_at.true) ∙ sym (value_first c.args.bytes.now c.args.i c.if-i-bytes.true)
+pub returns-in-Some : goal.returns-in-Some
+returns-in-Some c =
+    let b = c.args.bytes.now in
+    let f : SFits w32 c.value_at.result = search rules in
+    let found = c.in-Some.ensures.lookup in
+    let h : c.args.i < length b / 4 = omega (arith, found.3.0) in
+    c.value_of.ensures
+    ∙ ap value_of (to_z-of_z f ∙ c.value_at.ensures ∙ rw (found.3.1 []) (of_piece b _ c.args.i [] c.as_chunks.ensures.front h))
+    ∙ sym (value_first b c.args.i h)
 
-pub returns-else-small_at : goal.returns-else-small_at
-returns-else-small_at c = sym (value_first c.args.bytes.now c.args.i c.if-i-bytes.true ∙ value_out (value_at c.args.bytes.now (c.args.i * value_bytes)) (sym c.small_at.ensures ∙ c.if-small_at.false))
-
-pub returns-else-i-bytes : goal.returns-else-i-bytes
-returns-else-i-bytes c = sym (value_none c.args.bytes.now c.args.i c.if-i-bytes.false)
+pub returns-in-None : goal.returns-in-None
+returns-in-None c = sym (value_none c.args.bytes.now c.args.i (omega (arith, c.in-None.ensures.lookup.3)))

@@ -3,19 +3,21 @@ use borrow.Author.Tests.{eq-eqb, ne_eqb}
 use mathlib.Core.Path.{◌≡◌, refl, sym, ap, ◌∙◌}
 use mathlib.Core.Bool.{true, false, not}
 use native.Mathlib.Omega.{arith}
-use Prim.Native.Nat.{ℕ, ◌%◌}
+use Prim.Native.Nat.{ℕ, ◌*◌, ◌/◌, ◌%◌, ◌<◌}
+use lib.ListN.{length}
 use lib.IntN.{ℤ, pos, ◌+ℤ◌}
 use mir.Syntax.{w16, w32}
 use mir.Facts.{to_z-of_z}
 use mir.Val.{SFits, to_z, of_z}
 use Rattle.model.specs.Limits.{semaphores}
-use Rattle.model.specs.Operation.{is_zero}
+use Rattle.model.specs.Operation.{operation_at, is_zero}
 use Rattle.model.specs.Checks.{in_range}
 use Rattle.judging.specs.Stop.{moved_to, Stopped}
 use Rattle.judging.proofs.Values.{zero_is}
+use Rattle.judging.proofs.Operations.{of_piece}
 use Rattle.judging.proofs.StopLaws.{goes_on, stops_here, zero_on, zero_stops, stops_nowhere}
 use Rattle.judging.proofs.stop.stop_of.Goals as goal
-use Rattle.judging.proofs.stop.stop_of.Goals.{then-amount-eq0+else-value-ne0, else-amount-eq0+else-not-in_range}
+use Rattle.judging.proofs.stop.stop_of.Goals.{After-operation_of-operation, then-amount-eq0+else-value-ne0, else-amount-eq0+else-not-in_range}
 
 -- an amount of 0, by its bits
 zero : (z : ℤ) → SFits w16 z → of_z w16 z ≡ 0 → is_zero z ≡ true
@@ -37,38 +39,48 @@ amount_of e = ap (λ (y : Stopped). y.operation.amount) e
 values_of : {a b : Stopped} → a ≡ b → a.values ≡ b.values
 values_of e = ap (λ (y : Stopped). y.values) e
 
+-- the operation of a turn
+module _ (c : After-operation_of-operation) where
+  within : c.loop-piece.piece-index < length c.args.bytes.now / 6
+  within = omega arith
+
+  read : c.operation_of-operation.result ≡ operation_at c.args.bytes.now (c.loop-piece.piece-index * 6)
+  read = c.operation_of-operation.ensures ∙ of_piece c.args.bytes.now _ _ _ c.as_chunks.ensures.front within
+
 pub returns-then-value-ne0 : goal.returns-then-value-ne0
 returns-then-value-ne0 c =
-    let o = c.operation_at-operation.result in
+    let o = c.operation_of-operation.result in
+    let t = (goal.at.returns-then-value-ne0 c).After-operation_of-operation in
     let f : SFits w16 o.amount = search rules in
-    let e = zero_stops _ c.loop-i.i o c.loop-i.values c.loop-i-test.true c.operation_at-operation.ensures refl (zero o.amount f c.if-amount-eq0.true) c.if-value-ne0.true ∙ c.loop-i.invariant.1 in
+    let e = zero_stops _ c.loop-piece.piece-index o c.loop-piece.values (within t) (read t) refl (zero o.amount f c.if-amount-eq0.true) c.if-value-ne0.true ∙ c.loop-piece.invariant in
     record { number_value = number_of e; amount_value = to_z-of_z f ∙ amount_of e; values_after = values_of e }
 
 pub returns-then-not-in_range : goal.returns-then-not-in_range
 returns-then-not-in_range c =
-    let o = c.operation_at-operation.result in
+    let o = c.operation_of-operation.result in
+    let t = (goal.at.returns-then-not-in_range c).After-operation_of-operation in
     let f : SFits w16 o.amount = search rules in
     let g : SFits w32 c.moved-new.result = search rules in
     let out : in_range c.moved-new.result ≡ false = sym (rw (to_z-of_z g) at c.in_range.ensures) ∙ c.if-not-in_range.true in
-    let e = stops_here _ c.loop-i.i o c.loop-i.values c.loop-i-test.true c.operation_at-operation.ensures refl (leads _ o.amount _ f c.if-amount-eq0.false c.moved-new.ensures) (ap not out) ∙ c.loop-i.invariant.1 in
+    let e = stops_here _ c.loop-piece.piece-index o c.loop-piece.values (within t) (read t) refl (leads _ o.amount _ f c.if-amount-eq0.false c.moved-new.ensures) (ap not out) ∙ c.loop-piece.invariant in
     record { number_value = number_of e; amount_value = to_z-of_z f ∙ amount_of e; values_after = values_of e }
 
-pub loop-i-preserved : goal.loop-i-preserved
-loop-i-preserved c =
-    let o = c.operation_at-operation.result in
-    let f : SFits w16 o.amount = search rules in (
-      search rules,
-      elim c.if-amount-eq0.branch [
-        | then-amount-eq0+else-value-ne0 w ↦
-            rw w.values-is (zero_on _ c.loop-i.i o c.loop-i.values c.loop-i-test.true c.operation_at-operation.ensures refl (zero o.amount f w.if-amount-eq0.true) w.if-value-ne0.false) ∙ c.loop-i.invariant.1
-        | else-amount-eq0+else-not-in_range w ↦
-            let g : SFits w32 w.moved-new.result = search rules in
-            let inside : in_range w.moved-new.result ≡ true = sym (rw (to_z-of_z g) at w.in_range.ensures) ∙ w.if-not-in_range.false in
-            rw (w.values-is, w.value_of.ensures, to_z-of_z g) (goes_on _ c.loop-i.i o c.loop-i.values c.loop-i-test.true c.operation_at-operation.ensures refl (leads _ o.amount _ f w.if-amount-eq0.false w.moved-new.ensures) (ap not inside)) ∙ c.loop-i.invariant.1
-      ],
-    )
+pub loop-piece-preserved : goal.loop-piece-preserved
+loop-piece-preserved c =
+    let o = c.operation_of-operation.result in
+    let t = (goal.at.loop-piece-preserved c).After-operation_of-operation in
+    let f : SFits w16 o.amount = search rules in
+    elim c.if-amount-eq0.branch [
+      | then-amount-eq0+else-value-ne0 w ↦
+          rw w.values-is (zero_on _ c.loop-piece.piece-index o c.loop-piece.values (within t) (read t) refl (zero o.amount f w.if-amount-eq0.true) w.if-value-ne0.false) ∙ c.loop-piece.invariant
+      | else-amount-eq0+else-not-in_range w ↦
+          let g : SFits w32 w.moved-new.result = search rules in
+          let inside : in_range w.moved-new.result ≡ true = sym (rw (to_z-of_z g) at w.in_range.ensures) ∙ w.if-not-in_range.false in
+          rw (w.values-is, w.value_of.ensures, to_z-of_z g)
+          (goes_on _ c.loop-piece.piece-index o c.loop-piece.values (within t) (read t) refl (leads _ o.amount _ f w.if-amount-eq0.false w.moved-new.ensures) (ap not inside)) ∙ c.loop-piece.invariant
+    ]
 
 pub returns : goal.returns
 returns c =
-    let e = stops_nowhere _ _ c.loop-i.i (omega arith) ∙ c.loop-i.invariant.1 in
+    let e = stops_nowhere _ _ c.loop-piece.piece-index (omega arith) ∙ c.loop-piece.invariant in
     record { number_value = number_of e; amount_value = amount_of e; values_after = values_of e }

@@ -9,7 +9,7 @@ use mir.Facts.{to_z-of_z}
 use Rattle.model.specs.Judge.{next_value, next_adjustment}
 use Rattle.judging.proofs.Steps as law
 use Rattle.judging.proofs.walk.operate.Goals as goal
-use Rattle.judging.proofs.walk.operate.Goals.{then-with_undo+in-Some, else-with_undo}
+use Rattle.judging.proofs.walk.operate.Goals.{then-has+in-Some, else-has}
 use Rattle.std.specs.Prelude.{Option, Result, Err}
 use Rattle.model.specs.declared.Halt.{Halt}
 
@@ -25,7 +25,7 @@ returns-in-None c i =
     let o = c.args.operation in
     law.out _ _ o i _
     (value_is _ o.amount _ _ (search rules) c.next_value.ensures c.in-Ok.is)
-    (sym c.with_undo.ensures ∙ c.if-with_undo.true)
+    (sym c.has.ensures ∙ c.if-has.true)
     (adjustment_is (get_or c.args.adjustments.now o.number (pos 0)) o.amount _ _ (search rules) (search rules) c.next_adjustment.ensures c.in-None.is)
 
 pub returns-in-Err-Over : goal.returns-in-Err-Over
@@ -38,14 +38,14 @@ returns-in-Err-Stop c i =
     let o = c.args.operation in
     rw c.stopped.ensures (law.stop _ _ o i (value_is _ o.amount _ _ (search rules) c.next_value.ensures (c.in-Err-Stop.is ∙ ap Err c.in-Err-Stop.field-0-is)))
 
-pub returns-after-with_undo : goal.returns-after-with_undo
-returns-after-with_undo c i =
+pub returns-after-has : goal.returns-after-has
+returns-after-has c i =
     let o = c.args.operation in
     let to = value_is _ o.amount _ _ (search rules) c.next_value.ensures c.in-Ok.is in
-    elim c.if-with_undo.branch [
-      | then-with_undo+in-Some w ↦
+    elim c.if-has.branch [
+      | then-has+in-Some w ↦
           let f : SFits w16 w.in-Some.adjustment = search rules in
-          rw (w.adjustments-is, to_z-of_z f) (law.undoing _ _ o i _ _ to (sym c.with_undo.ensures ∙ w.if-with_undo.true)
+          rw (w.adjustments-is, to_z-of_z f) (law.undoing _ _ o i _ _ to (sym c.has.ensures ∙ w.if-has.true)
           (adjustment_is (get_or c.args.adjustments.now o.number (pos 0)) o.amount _ _ (search rules) (search rules) w.next_adjustment.ensures w.in-Some.is))
-      | else-with_undo w ↦ rw w.adjustments-is (law.plain _ _ o i _ to (sym c.with_undo.ensures ∙ w.if-with_undo.false))
+      | else-has w ↦ rw w.adjustments-is (law.plain _ _ o i _ to (sym c.has.ensures ∙ w.if-has.false))
     ]
