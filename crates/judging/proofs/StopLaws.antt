@@ -25,7 +25,7 @@ use Rattle.model.specs.Runs.{All}
 use Rattle.model.proofs.Lists.{first, rest, all_get_d}
 use Rattle.model.proofs.JudgeLaws.{either, Fine, step_fine, next_small}
 use Rattle.judging.specs.Value.{value_of}
-use Rattle.judging.specs.Stop.{moved_to, stopped_at, stop_from}
+use Rattle.judging.specs.Stop.{moved_to, Stopped, stopped_at, stop_from, goes_through}
 use Rattle.judging.proofs.Operations as operations
 use Rattle.judging.proofs.Values.{tested, next_is}
 use Rattle.std.specs.Prelude.{Option, Some, None, Ok, Err, Result}
@@ -34,19 +34,35 @@ use Rattle.model.specs.declared.Halt.TheVariants.{Over, Stop}
 
 -- ---- the turns of the loop: o is the i-th operation of the bytes, n its number within a set, and new where its amount leads
 
+-- where operations stop, and whether they all go through
+abbrev pub stop_by : List Operation → List ℕ → Stopped × Bool
+stop_by os vs = (stop_from os vs, goes_through os vs)
+
+either_way : (b : Bool) (on off : Stopped) (more : Bool) → ◌≡◌ {A = Stopped × Bool} (cond b on off, b && more) (cond b (on, more) (off, false))
+either_way true on off more = refl
+either_way false on off more = refl
+
+by_first : (o : Operation) (os : List Operation) (vs : List ℕ)
+    → stop_by (o ∷ os) vs
+    ≡ cond (in_range (moved_to (get_or vs (o.number % semaphores) 0) o.amount)) (stop_by os (set vs (o.number % semaphores) (value_of (moved_to (get_or vs (o.number % semaphores) 0) o.amount)))) (stopped_at o vs, false)
+unfolding stop_from goes_through
+by_first o os vs =
+    let n : ℕ = o.number % semaphores in
+    let new : ℤ = moved_to (get_or vs n 0) o.amount in
+    either_way (in_range new) (stop_from os (set vs n (value_of new))) (stopped_at o vs) (goes_through os (set vs n (value_of new)))
+
 module _ (bytes : List ℕ) (i : ℕ) (o : Operation) (vs : List ℕ) {n : ℕ} {new : ℤ}
     (h : i < length bytes / 6)
     (eo : o ≡ operation_at bytes (i * 6))
     (en : n ≡ o.number % semaphores)
     (ew : new ≡ moved_to (get_or vs n 0) o.amount) where
-  turned : stop_from (operations.rest bytes i) vs ≡ cond (in_range new) (stop_from (operations.rest bytes (i + 1)) (set vs n (value_of new))) (stopped_at o vs)
-  unfolding stop_from
-  turned = rw (operations.first bytes i h, ew, en, eo)
+  turned : stop_by (operations.rest bytes i) vs ≡ cond (in_range new) (stop_by (operations.rest bytes (i + 1)) (set vs n (value_of new))) (stopped_at o vs, false)
+  turned = rw (operations.first bytes i h, ew, en, eo) (by_first (operation_at bytes (i * 6)) (operations.rest bytes (i + 1)) vs)
 
-  pub goes_on : not (in_range new) ≡ false → stop_from (operations.rest bytes (i + 1)) (set vs n (value_of new)) ≡ stop_from (operations.rest bytes i) vs
+  pub goes_on : not (in_range new) ≡ false → stop_by (operations.rest bytes (i + 1)) (set vs n (value_of new)) ≡ stop_by (operations.rest bytes i) vs
   goes_on t = sym (turned ∙ rw (not-false (in_range new) t))
 
-  pub stops_here : not (in_range new) ≡ true → stopped_at o vs ≡ stop_from (operations.rest bytes i) vs
+  pub stops_here : not (in_range new) ≡ true → ◌≡◌ {A = Stopped × Bool} (stopped_at o vs, false) (stop_by (operations.rest bytes i) vs)
   stops_here t = sym (turned ∙ rw (not-true (in_range new) t))
 
 -- .. where the amount is 0: it goes on from 0 to 0, and stops at any other value
@@ -60,18 +76,18 @@ module _ (bytes : List ℕ) (i : ℕ) (o : Operation) (vs : List ℕ) {n : ℕ} 
   leads : moved_to (get_or vs n 0) o.amount ≡ pos 0 -ℤ pos (get_or vs n 0)
   leads = rw z
 
-  pub zero_on : get_or vs n 0 ≡ 0 → stop_from (operations.rest bytes (i + 1)) vs ≡ stop_from (operations.rest bytes i) vs
+  pub zero_on : get_or vs n 0 ≡ 0 → stop_by (operations.rest bytes (i + 1)) vs ≡ stop_by (operations.rest bytes i) vs
   unfolding in_range value_of
   zero_on e =
       let here : moved_to (get_or vs n 0) o.amount ≡ pos 0 = leads ∙ rw e in
       let still : set vs n 0 ≡ vs = ap (set vs n) (sym e) ∙ set-get_or vs n 0 in
       rw still at (goes_on bytes i o vs h eo en (sym here) refl)
 
-  pub zero_stops : (get_or vs n 0 ≡ 0 → ⊥) → stopped_at o vs ≡ stop_from (operations.rest bytes i) vs
+  pub zero_stops : (get_or vs n 0 ≡ 0 → ⊥) → ◌≡◌ {A = Stopped × Bool} (stopped_at o vs, false) (stop_by (operations.rest bytes i) vs)
   zero_stops e = stops_here bytes i o vs h eo en (sym leads) (ap not (zero_out (get_or vs n 0) e))
 
-pub stops_nowhere : (bytes vs : List ℕ) (i : ℕ) → i ≡ length bytes / 6 → stopped_at no_operation vs ≡ stop_from (operations.rest bytes i) vs
-unfolding stop_from
+pub stops_nowhere : (bytes vs : List ℕ) (i : ℕ) → i ≡ length bytes / 6 → ◌≡◌ {A = Stopped × Bool} (stopped_at no_operation vs, true) (stop_by (operations.rest bytes i) vs)
+unfolding stop_from goes_through
 stops_nowhere bytes vs i e = rw (operations.none bytes i e)
 
 -- ---- one operation, as its value fares
@@ -111,7 +127,7 @@ decides_after start (o ∷ os) c i = go (step c o i).outcome _ (decides_after st
 module _ (start : Copies) (more : List Operation) where
   -- where judging stops, an array with anything behind it stops by the values
   abbrev Found : List Operation → Copies → ℕ → Judged → Type 0
-  Found os c i j = j.outcome ≡ Sleep → (stop_from (os ++ more) c.values).operation ≡ get_or os (j.position - i) no_operation
+  Found os c i j = j.outcome ≡ Sleep → ((stop_from (os ++ more) c.values).operation ≡ get_or os (j.position - i) no_operation) × (goes_through (os ++ more) c.values ≡ false)
 
   module _ (o : Operation) (os : List Operation) (c : Copies) (i : ℕ) (f : Fine c) (small : o.number < semaphores)
       (on : (c' : Copies) → Fine c' → Found os c' (i + 1) (judge_from start os c' (i + 1))) where
@@ -120,7 +136,7 @@ module _ (start : Copies) (more : List Operation) where
 
     -- it goes on to the value x
     to : (x : ℕ) (c' : Copies) → next_value value o.amount ≡ Ok x → c'.values ≡ set c.values o.number x → Fine c' → Found (o ∷ os) c i (judge_from start os c' (i + 1))
-    unfolding stop_from in_range value_of
+    unfolding stop_from goes_through in_range value_of
     to x c' ex ev f' e =
         let here : o.number % semaphores ≡ o.number = mod-eq_of_lt small in
         let new : moved_to value o.amount ≡ pos x = to_tested (moved_to value o.amount) o.amount x (sym (next_is value o.amount) ∙ ex) in
@@ -133,12 +149,12 @@ module _ (start : Copies) (more : List Operation) where
     Finds j = Fine j.copies → Found (o ∷ os) c i (go_on start i j.outcome (judge_from start os j.copies (i + 1)))
 
     stops : next_value value o.amount ≡ Err Stop → Finds (judged Sleep i c)
-    unfolding stop_from go_on
+    unfolding stop_from goes_through go_on
     stops ex g e =
         let here : o.number % semaphores ≡ o.number = mod-eq_of_lt small in
         let out : in_range (moved_to value o.amount) ≡ false = stop_tested (moved_to value o.amount) o.amount (sym (next_is value o.amount) ∙ ex) in
         let p : i - i ≡ 0 = omega arith in
-        rw (here, out, p)
+        rw (here, out, p) (refl, refl)
 
     undone_by : (x : ℕ) → next_value value o.amount ≡ Ok x → (y : Option ℤ) → Finds (undone c o i x y)
     unfolding go_on
@@ -177,8 +193,9 @@ module _ (bytes : List ℕ) where
       let byte : (j : ℕ) → at + j < k → get_or (take k bytes) (at + j) 0 ≡ get_or bytes (at + j) 0 = λ j l. get_or-take k bytes (at + j) 0 l in
       rw (get_or-take k bytes at 0 (omega arith), byte 1 (omega arith), byte 2 (omega arith), byte 3 (omega arith), byte 4 (omega arith), byte 5 (omega arith), operations_taken k (at + 6) n (omega arith))
 
+  -- where judging stops, and that it stops at all
   pub stop_in_room : (k : ℕ) (start : Copies) → Fine start → All (λ (o : Operation). o.number < semaphores) (operations_of (take k bytes)) → (judge start (operations_of (take k bytes))).outcome ≡ Sleep
-      → (stop_from (operations_of bytes) start.values).operation ≡ get_or (operations_of (take k bytes)) (judge start (operations_of (take k bytes))).position no_operation
+      → ((stop_from (operations_of bytes) start.values).operation ≡ get_or (operations_of (take k bytes)) (judge start (operations_of (take k bytes))).position no_operation) × (goes_through (operations_of bytes) start.values ≡ false)
   stop_in_room k start f ns e =
       let m : ℕ = length (take k bytes) / 6 in
       let more : List Operation = operations_from bytes (0 + 6 * m) (length bytes / 6 - m) in

@@ -1,11 +1,12 @@
 -- Where the operations of an array stop, by the values alone. It is where judging stops, if judging would sleep
 -- (proofs/StopLaws.antt).
-use Rattle.std.specs.Prelude.{ℕ, ◌%◌, cond, List, [], ◌∷◌, get_or, set, ℤ, pos, ◌+ℤ◌, ◌-ℤ◌}
+use Rattle.std.specs.Prelude.{ℕ, ◌%◌, Bool, true, cond, ◌&&◌, List, [], ◌∷◌, get_or, set, ℤ, pos, ◌+ℤ◌, ◌-ℤ◌, Option, None, Some}
 use Rattle.model.specs.declared.Operation.{Operation}
 use Rattle.model.specs.Limits.{semaphores}
 use Rattle.model.specs.Operation.{is_zero}
 use Rattle.model.specs.Checks.{in_range}
 use Rattle.model.specs.Counts.{no_operation}
+use Rattle.judging.specs.declared.stop.Stop.{Stop}
 use Rattle.judging.specs.Value.{value_of}
 
 -- where an amount leads from a value: below 0 if the value is smaller than the magnitude of an amount below 0, and, at an
@@ -28,3 +29,20 @@ stop_from (o ∷ os) vs =
     let n = o.number % semaphores in
     let new = moved_to (get_or vs n 0) o.amount in
     cond (in_range new) (stop_from os (set vs n (value_of new))) (stopped_at o vs)
+
+-- do all of them go through?
+unfoldable pub goes_through : List Operation → List ℕ → Bool
+goes_through [] vs = true
+goes_through (o ∷ os) vs =
+    let n = o.number % semaphores in
+    let new = moved_to (get_or vs n 0) o.amount in
+    in_range new && goes_through os (set vs n (value_of new))
+
+-- what is told of the operation that stops; of none the number and the amount of `no_operation`
+abbrev pub number_of : Option Stop → ℕ
+number_of None = 0
+number_of (Some stop) = stop.number
+
+abbrev pub amount_of : Option Stop → ℤ
+amount_of None = pos 0
+amount_of (Some stop) = stop.amount

@@ -28,7 +28,7 @@ use Rattle.host.specs.Queue.{Room}
 use Rattle.host.proofs.ProcessLaws.{of_own}
 use Rattle.host.proofs.SleeperLaws.{zeros_at}
 use Rattle.host.proofs.QueueRows.{array_read_back}
-use Rattle.judging.specs.Stop.{stop_from}
+use Rattle.judging.specs.Stop.{stop_from, goes_through}
 use Rattle.judging.proofs.StopLaws.{stop_in_room}
 use Rattle.service_waking.proofs.LookLaws.{values_read}
 use Rattle.service_waking.proofs.ByProcess.{up_to, mask_start, mask_end, mask_next, mask_lacks, by_next}
@@ -116,7 +116,7 @@ module _ (x : Host) (k : Held x) (slot : ℕ) (small : slot < slots) {p : ℕ} (
 
   -- by the values, and in its room, it stops where judging stops
   module _ {o : Operation} {vs : List ℕ} (ev : vs ≡ from 0 semaphores (row slot) (x.row values)) (eo : o ≡ (stop_from (operations_of (room_in x.row p)) vs).operation) where
-    stop_is : o ≡ stop (table_in x) (get_or (queue_in x.row) seat.at no_sleeper)
+    stop_is : (o ≡ stop (table_in x) (get_or (queue_in x.row) seat.at no_sleeper)) × (goes_through (operations_of (room_in x.row p)) vs ≡ false)
     unfolding stop look mine array_in
     stop_is =
         let t : Table = table_in x in
@@ -126,24 +126,26 @@ module _ (x : Host) (k : Held x) (slot : ℕ) (small : slot < slots) {p : ℕ} (
         let read : vs ≡ (copies_of t sleeper).values = ev ∙ values_read t slot v.good.values small ∙ ap (values_of t) (sym (eqb-true _ _ here)) in
         let found = stop_in_room (room_in x.row p) n (copies_of t sleeper) (copies_fine t sleeper v.good f)
         (subst (λ (a : List ℕ). All (λ (o : Operation). o.number < semaphores) (operations_of a)) (sym array_own) (numbers_fit v.counts sleeper f))
-        (subst (λ (a : List ℕ). (judge (copies_of t sleeper) (operations_of a)).outcome ≡ Sleep) (sym array_own) (sleeps _ stuck)) in
-        eo ∙ ap (λ (w : List ℕ). (stop_from (operations_of (room_in x.row p)) w).operation) read
-        ∙ found
-        ∙ ap (λ (a : List ℕ). get_or (operations_of a) (judge (copies_of t sleeper) (operations_of a)).position no_operation) array_own
+        (subst (λ (a : List ℕ). (judge (copies_of t sleeper) (operations_of a)).outcome ≡ Sleep) (sym array_own) (sleeps _ stuck)) in (
+          eo ∙ ap (λ (w : List ℕ). (stop_from (operations_of (room_in x.row p)) w).operation) read
+              ∙ found.0
+              ∙ ap (λ (a : List ℕ). get_or (operations_of a) (judge (copies_of t sleeper) (operations_of a)).position no_operation) array_own,
+          ap (goes_through (operations_of (room_in x.row p))) read ∙ found.1,
+        )
 
     number_small : o.number < semaphores
     number_small =
         let v = held_invariant x k in
         let l = all_at (queue_in x.row) seat.at no_sleeper (stops (state_in x) v) seat.there in
-        omega (arith, ap (λ (y : Operation). y.number) stop_is, l, held_counts x k sleeper.slot)
+        omega (arith, ap (λ (y : Operation). y.number) stop_is.0, l, held_counts x k sleeper.slot)
 
     for_increase_lem : (n : ℕ) → for_increase (table_in x) slot n (get_or (queue_in x.row) seat.at no_sleeper) ≡ eqb o.number n && is_negative o.amount
     unfolding for_increase stops_at
-    for_increase_lem n = rw (here, stuck, stop_is)
+    for_increase_lem n = rw (here, stuck, stop_is.0)
 
     for_zero_lem : (n : ℕ) → for_zero (table_in x) slot n (get_or (queue_in x.row) seat.at no_sleeper) ≡ eqb o.number n && not (is_negative o.amount)
     unfolding for_zero stops_at
-    for_zero_lem n = rw (here, stuck, stop_is)
+    for_zero_lem n = rw (here, stuck, stop_is.0)
 
 -- ---- masks, one for each semaphore
 
@@ -265,11 +267,7 @@ module _ (x : Host) (k : Held x) (slot : ℕ) where
         unmoved m h = sym (rw h (or_zero_r m))
 
     -- it does, and is judged
-    module _ (z : b ≡ true) {o : Operation} {vs increase' zero' : List ℕ}
-        (ev : vs ≡ from 0 semaphores (row slot) (x.row values))
-        (eo : o ≡ (stop_from (operations_of (room_in x.row (n + 1))) vs).operation)
-        (ei : increase' ≡ wait_if (is_negative o.amount) increase (o.number % semaphores) (bit_of (n + 1)))
-        (ez : zero' ≡ wait_if (not (is_negative o.amount)) zero (o.number % semaphores) (bit_of (n + 1))) where
+    module _ (z : b ≡ true) where
       seat : Seat (n + 1) (queue_in x.row)
       seat = seated (mine slot) (n + 1) q (asked ∙ z)
 
@@ -279,19 +277,28 @@ module _ (x : Host) (k : Held x) (slot : ℕ) where
       here : mine slot (get_or (queue_in x.row) seat.at no_sleeper) ≡ true
       here = sym (of_seat (mine slot)) ∙ asked ∙ z
 
-      -- masks that got the bit where it waits
-      waited : (tests : ℕ → Sleeper → Bool) {masks masks' : List ℕ} (c : Bool) → Gathered tests (queue_in x.row) masks n → masks' ≡ wait_if c masks (o.number % semaphores) (bit_of (n + 1))
-          → ((j : ℕ) → tests j (get_or (queue_in x.row) seat.at no_sleeper) ≡ eqb o.number j && c) → Gathered tests (queue_in x.row) masks' (n + 1)
-      waited tests {masks} {masks'} c g e h =
-          gathered_next tests q distinct g (ap length e ∙ wait_long masks (o.number % semaphores) (bit_of (n + 1)) c)
-          (λ j. ap (λ (m : List ℕ). get_or m j 0) e ∙ wait_if_lem masks o.number j (bit_of (n + 1)) c (number_small x k slot small seat here ev eo) g.long
-          ∙ ap₂ (λ (t : Bool) (bit : ℕ). bit_or (get_or masks j 0) (cond t bit 0)) (sym (of_seat (tests j) ∙ h j)) (bit_next n))
+      module _ {vs : List ℕ} (ev : vs ≡ from 0 semaphores (row slot) (x.row values)) where
+        -- it stops somewhere
+        pub stops_somewhere : goes_through (operations_of (room_in x.row (n + 1))) vs ≡ false
+        stops_somewhere = (stop_is x k slot small seat here ev refl).1
 
-      pub walked_more : Walked x slot increase' zero' (bit_or judged (bit_of (n + 1))) (n + 1)
-      walked_more =
-          record {
-            within = omega arith;
-            increases = waited (for_increase (table_in x) slot) (is_negative o.amount) w.increases ei (for_increase_lem x k slot small seat here ev eo);
-            zeros = waited (for_zero (table_in x) slot) (not (is_negative o.amount)) w.zeros ez (for_zero_lem x k slot small seat here ev eo);
-            seen = ap (bit_or judged) (bit_next n) ∙ ap (λ (c : Bool). bit_or judged (cond c (2 ^ n) 0)) (sym z) ∙ seen_next;
-          }
+        module _ {o : Operation} {increase' zero' : List ℕ}
+            (eo : o ≡ (stop_from (operations_of (room_in x.row (n + 1))) vs).operation)
+            (ei : increase' ≡ wait_if (is_negative o.amount) increase (o.number % semaphores) (bit_of (n + 1)))
+            (ez : zero' ≡ wait_if (not (is_negative o.amount)) zero (o.number % semaphores) (bit_of (n + 1))) where
+          -- masks that got the bit where it waits
+          waited : (tests : ℕ → Sleeper → Bool) {masks masks' : List ℕ} (c : Bool) → Gathered tests (queue_in x.row) masks n → masks' ≡ wait_if c masks (o.number % semaphores) (bit_of (n + 1))
+              → ((j : ℕ) → tests j (get_or (queue_in x.row) seat.at no_sleeper) ≡ eqb o.number j && c) → Gathered tests (queue_in x.row) masks' (n + 1)
+          waited tests {masks} {masks'} c g e h =
+              gathered_next tests q distinct g (ap length e ∙ wait_long masks (o.number % semaphores) (bit_of (n + 1)) c)
+              (λ j. ap (λ (m : List ℕ). get_or m j 0) e ∙ wait_if_lem masks o.number j (bit_of (n + 1)) c (number_small x k slot small seat here ev eo) g.long
+              ∙ ap₂ (λ (t : Bool) (bit : ℕ). bit_or (get_or masks j 0) (cond t bit 0)) (sym (of_seat (tests j) ∙ h j)) (bit_next n))
+
+          pub walked_more : Walked x slot increase' zero' (bit_or judged (bit_of (n + 1))) (n + 1)
+          walked_more =
+              record {
+                within = omega arith;
+                increases = waited (for_increase (table_in x) slot) (is_negative o.amount) w.increases ei (for_increase_lem x k slot small seat here ev eo);
+                zeros = waited (for_zero (table_in x) slot) (not (is_negative o.amount)) w.zeros ez (for_zero_lem x k slot small seat here ev eo);
+                seen = ap (bit_or judged) (bit_next n) ∙ ap (λ (c : Bool). bit_or judged (cond c (2 ^ n) 0)) (sym z) ∙ seen_next;
+              }

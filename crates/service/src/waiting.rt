@@ -1,11 +1,11 @@
 // Who waits at the semaphores of a set, found in one walk: a sleeper stops at one operation, so a walk tells it for all of them.
-ghost use Rattle.std.specs.Prelude.{◌≡◌, ◌%◌, false, not, ◌&&◌, ◌==◌, bit_or, slice_index};
+ghost use Rattle.std.specs.Prelude.{◌≡◌, ◌%◌, false, not, ◌&&◌, ◌==◌, bit_or, slice_index, is_none};
 ghost use Rattle.model.specs.Limits.{semaphores};
 ghost use Rattle.model.specs.Operation.{operations_of, is_negative, has_bit};
 ghost use Rattle.model.specs.Marks.{bit_of};
 ghost use Rattle.host.specs.Parts.{row_in, sleeps_at, sizes};
 ghost use Rattle.host.specs.Holding.{Held, host_in, table_in, queue_in, entry, room_in};
-ghost use Rattle.judging.specs.Stop.{stop_from};
+ghost use Rattle.judging.specs.Stop.{stop_from, goes_through, number_of, amount_of};
 ghost use Rattle.service_table.specs.Numbered.{IsSlot, IsProcess};
 ghost use Rattle.service.specs.Waiting.{waiters_of, wait_if};
 
@@ -37,11 +37,9 @@ fn wait_at(increase: &mut [u8; SEMAPHORES], zero: &mut [u8; SEMAPHORES], stop: S
 {
     let number = (stop.number as usize) % SEMAPHORES;
     if is_negative(stop.amount) {
-        let mask = increase[number];
-        increase[number] = mask | bit;
+        increase[number] |= bit;
     } else {
-        let mask = zero[number];
-        zero[number] = mask | bit;
+        zero[number] |= bit;
     }
 }
 
@@ -52,15 +50,16 @@ fn judge_one(
     process: u8,
     values: [u16; SEMAPHORES],
     judged: &mut u8,
-) -> Stop
+) -> Option<Stop>
     requires process { IsProcess process }
     requires process_value { has_bit judged.old (bit_of process) ≡ false }
-    ensures number_value { result.number ≡ (stop_from (operations_of (room_in (row_in host.now) process)) values).operation.number % semaphores }
-    ensures amount_value { result.amount ≡ (stop_from (operations_of (room_in (row_in host.now) process)) values).operation.amount }
+    ensures number_value { number_of result ≡ (stop_from (operations_of (room_in (row_in host.now) process)) values).operation.number % semaphores }
+    ensures amount_value { amount_of result ≡ (stop_from (operations_of (room_in (row_in host.now) process)) values).operation.amount }
+    ensures none_value { is_none result ≡ goes_through (operations_of (room_in (row_in host.now) process)) values }
     ensures judged_after { judged.new ≡ bit_or judged.old (bit_of process) }
 {
     let mut copy = values;
-    *judged = *judged | bit_of(process);
+    *judged |= bit_of(process);
     stop_of(&mut copy, room_of(host, process))
 }
 
@@ -83,13 +82,14 @@ pub fn waiting(
     for n in 0..PROCESSES {
         let process = (n as u8) + 1;
         if sleeps_at(host, process, wanted) {
-            let stop = judge_one(host, process, values, &mut judged);
-            wait_at(&mut increase, &mut zero, stop, bit_of(process));
+            if let Some(stop) = judge_one(host, process, values, &mut judged) {
+                wait_at(&mut increase, &mut zero, stop, bit_of(process));
+            }
         }
     }
     Waiters {
-        increase: increase,
-        zero: zero,
-        judged: u8::count_ones(judged),
+        increase,
+        zero,
+        judged: judged.count_ones(),
     }
 }

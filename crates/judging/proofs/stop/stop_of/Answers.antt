@@ -1,7 +1,7 @@
 use borrow.Author.Rules.{rules}
 use borrow.Author.Tests.{eq-eqb, ne_eqb}
 use mathlib.Core.Path.{◌≡◌, refl, sym, ap, ◌∙◌}
-use mathlib.Core.Bool.{true, false, not}
+use mathlib.Core.Bool.{Bool, true, false, not}
 use native.Mathlib.Omega.{arith}
 use Prim.Native.Nat.{ℕ, ◌*◌, ◌/◌, ◌%◌, ◌<◌}
 use lib.ListN.{length}
@@ -30,14 +30,17 @@ leads v z new f n e =
     rw not_zero (rw (to_z-of_z f) at e)
 
 -- what is promised, from one equation
-number_of : {a b : Stopped} → a ≡ b → a.operation.number % semaphores ≡ b.operation.number % semaphores
-number_of e = ap (λ (y : Stopped). y.operation.number % semaphores) e
+number_is : {a b : Stopped × Bool} → a ≡ b → a.0.operation.number % semaphores ≡ b.0.operation.number % semaphores
+number_is e = ap (λ (y : Stopped × Bool). y.0.operation.number % semaphores) e
 
-amount_of : {a b : Stopped} → a ≡ b → a.operation.amount ≡ b.operation.amount
-amount_of e = ap (λ (y : Stopped). y.operation.amount) e
+amount_is : {a b : Stopped × Bool} → a ≡ b → a.0.operation.amount ≡ b.0.operation.amount
+amount_is e = ap (λ (y : Stopped × Bool). y.0.operation.amount) e
 
-values_of : {a b : Stopped} → a ≡ b → a.values ≡ b.values
-values_of e = ap (λ (y : Stopped). y.values) e
+none_is : {a b : Stopped × Bool} → a ≡ b → a.1 ≡ b.1
+none_is e = ap (λ (y : Stopped × Bool). y.1) e
+
+values_are : {a b : Stopped × Bool} → a ≡ b → a.0.values ≡ b.0.values
+values_are e = ap (λ (y : Stopped × Bool). y.0.values) e
 
 -- the operation of a turn
 module _ (c : After-operation_of-operation) where
@@ -53,7 +56,7 @@ returns-then-value-ne0 c =
     let t = (goal.at.returns-then-value-ne0 c).After-operation_of-operation in
     let f : SFits w16 o.amount = search rules in
     let e = zero_stops _ c.loop-piece.piece-index o c.loop-piece.values (within t) (read t) refl (zero o.amount f c.if-amount-eq0.true) c.if-value-ne0.true ∙ c.loop-piece.invariant in
-    record { number_value = number_of e; amount_value = to_z-of_z f ∙ amount_of e; values_after = values_of e }
+    record { number_value = number_is e; amount_value = to_z-of_z f ∙ amount_is e; none_value = none_is e; values_after = values_are e }
 
 pub returns-then-not-in_range : goal.returns-then-not-in_range
 returns-then-not-in_range c =
@@ -63,7 +66,7 @@ returns-then-not-in_range c =
     let g : SFits w32 c.moved-new.result = search rules in
     let out : in_range c.moved-new.result ≡ false = sym (rw (to_z-of_z g) at c.in_range.ensures) ∙ c.if-not-in_range.true in
     let e = stops_here _ c.loop-piece.piece-index o c.loop-piece.values (within t) (read t) refl (leads _ o.amount _ f c.if-amount-eq0.false c.moved-new.ensures) (ap not out) ∙ c.loop-piece.invariant in
-    record { number_value = number_of e; amount_value = to_z-of_z f ∙ amount_of e; values_after = values_of e }
+    record { number_value = number_is e; amount_value = to_z-of_z f ∙ amount_is e; none_value = none_is e; values_after = values_are e }
 
 pub loop-piece-preserved : goal.loop-piece-preserved
 loop-piece-preserved c =
@@ -83,4 +86,4 @@ loop-piece-preserved c =
 pub returns : goal.returns
 returns c =
     let e = stops_nowhere _ _ c.loop-piece.piece-index (omega arith) ∙ c.loop-piece.invariant in
-    record { number_value = number_of e; amount_value = amount_of e; values_after = values_of e }
+    record { number_value = number_is e; amount_value = amount_is e; none_value = none_is e; values_after = values_are e }
