@@ -40,9 +40,7 @@ pub fn print(
             progress,
             &mut out,
         );
-        if whole {
-            whole = io::write_all(STANDARD_OUTPUT, &out[..progress.written]);
-        }
+        whole = whole && io::write_all(STANDARD_OUTPUT, &out[..progress.written]);
     }
     progress
 }
