@@ -1,10 +1,20 @@
 -- Elements of a list from a place on: the loops that read and write them, and what they are where all of them are there.
-use Rattle.std.proofs.Common.{◌≡◌, ℕ, zero, suc, ◌+◌, ◌<◌, ◌≤◌, List, [], ◌∷◌, ◌++◌, length, get_or, take, drop, set, replicate, sym, refl, ap, ◌∙◌, ap₂, add-zero, add-one, arith, length-set, length-take-le, take_all, take-suc, take-suc-set}
+use Rattle.std.proofs.Common.{◌≡◌, ℕ, zero, suc, ◌+◌, ◌<◌, ◌≤◌, List, [], ◌∷◌, ◌++◌, map, length, get_or, take, drop, set, replicate, sym, refl, ap, ◌∙◌, ap₂, add-zero, add-one, arith, length-set, length-take-le, take_all, take-suc, take-suc-set}
 use lib.ListN.{get_or-eq_default}
 use lib.Seq.{sets, sets-eq, paste, slice, slice-cons, slice_empty, set_out}
 use borrow.Rule.Slice.PartMut.{put_mid}
 use Rattle.std.proofs.lemmas.Slice.{put_mid-paste}
 use Rattle.host.specs.Rows.{from}
+
+-- each of them is read, as numbers that values stand for
+pub from_each : {A B : Type 0} (f : A → B) (d : B) (n at : ℕ) (l : List B) (out : List A) → length out ≡ n → ((i : ℕ) (e : A) → i < n → f (get_or out i e) ≡ get_or l (at + i) d) → map f out ≡ from d n at l
+unfolding from
+from_each f d zero at l [] e g = refl
+from_each f d zero at l (x ∷ out) e g = absurd (omega arith)
+from_each f d (suc n) at l [] e g = absurd (omega arith)
+from_each {A} {B} f d (suc n) at l (x ∷ out) e g =
+    let more : (i : ℕ) → at + suc i ≡ at + 1 + i = λ i. omega arith in
+    ap₂ (λ (y : B) (r : List B). y ∷ r) (rw add-zero at (g 0 x (omega arith))) (from_each f d n (at + 1) l out (omega arith) (λ i z h. rw (more i) at (g (suc i) z (omega arith))))
 
 module _ {A : Type 0} where
   -- ---- reading
@@ -33,16 +43,6 @@ module _ {A : Type 0} where
   unfolding from
   from_beyond d zero at l h = refl
   from_beyond d (suc n) at l h = ap₂ (λ (x : A) (r : List A). x ∷ r) (get_or-eq_default l d h) (from_beyond d n (at + 1) l (omega arith))
-
-  -- each of them is read
-  pub from_each : (d : A) (n at : ℕ) (l out : List A) → length out ≡ n → ((i : ℕ) → i < n → get_or out i d ≡ get_or l (at + i) d) → out ≡ from d n at l
-  unfolding from
-  from_each d zero at l [] e f = refl
-  from_each d zero at l (x ∷ out) e f = absurd (omega arith)
-  from_each d (suc n) at l [] e f = absurd (omega arith)
-  from_each d (suc n) at l (x ∷ out) e f =
-      let more : (i : ℕ) → at + suc i ≡ at + 1 + i = λ i. omega arith in
-      ap₂ (λ (y : A) (r : List A). y ∷ r) (rw add-zero at (f 0 (omega arith))) (from_each d n (at + 1) l out (omega arith) (λ i h. rw (more i) at (f (suc i) (omega arith))))
 
   -- the loop: the first j of n are read
   pub record Reading (d : A) (n at : ℕ) (l out : List A) (j : ℕ) : Type 0 where

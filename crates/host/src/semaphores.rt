@@ -1,12 +1,13 @@
 // The values and the last processes of the semaphores: one by its index in the part, or the eight of a slot.
-ghost use Rattle.std.specs.Prelude.{◌≡◌, slice_index};
+ghost use Rattle.std.specs.Prelude.{◌≡◌, ◌+◌, ◌*◌, ◌≤◌, map, slice_index};
 ghost use Rattle.std.proofs.lemmas.List.Edits.{sets};
-ghost use Rattle.model.specs.Limits.{semaphores};
+ghost use Rattle.model.specs.Limits.{semaphores, all_semaphores};
 ghost use Rattle.model.specs.State.{row};
-ghost use Rattle.host.specs.Parts.{values, lasts, row_in, with, put};
+ghost use Rattle.host.specs.Parts.{values, lasts, host_bytes, AtPlace, row_in, with, put};
 ghost use Rattle.host.specs.Rows.{from, masked};
 
-use crate::parts::{HOST_BYTES, LASTS, VALUES};
+use crate::bytes::Number;
+use crate::parts::{HOST_BYTES, LASTS, Part, VALUES};
 use model::{SEMAPHORES, SETS};
 use std::array;
 
@@ -24,14 +25,23 @@ pub fn put_value(host: &mut [u8; HOST_BYTES], i: usize, value: u16)
     VALUES.put(host, i, value);
 }
 
+// The eight numbers of a slot, in a part by semaphore.
+fn eight_of<T: Number>(part: Part<T>, host: &[u8; HOST_BYTES], slot: usize) -> [T; SEMAPHORES]
+    requires inside { part.at + T.WIDTH * part.count ≤ host_bytes }
+    requires by_semaphore { part.count ≡ all_semaphores }
+    ensures { AtPlace part.at T.WIDTH part.count (λ p. map T.value result ≡ from 0 semaphores (row slot) (row_in host.now p)) }
+{
+    if SETS <= slot {
+        return [T::default(); SEMAPHORES];
+    }
+    array::from_fn(|j| part.get(host, slot * SEMAPHORES + j))
+}
+
 // The values of a slot.
 pub fn values_of(host: &[u8; HOST_BYTES], slot: usize) -> [u16; SEMAPHORES]
     ensures { result ≡ from 0 semaphores (row slot) (row_in host.now values) }
 {
-    if SETS <= slot {
-        return [0; SEMAPHORES];
-    }
-    array::from_fn(|j| VALUES.get(host, slot * SEMAPHORES + j))
+    eight_of(VALUES, host, slot)
 }
 
 // A slot gets these values.
@@ -56,10 +66,7 @@ pub fn last_at(host: &[u8; HOST_BYTES], i: usize) -> u8
 pub fn lasts_of(host: &[u8; HOST_BYTES], slot: usize) -> [u8; SEMAPHORES]
     ensures { result ≡ from 0 semaphores (row slot) (row_in host.now lasts) }
 {
-    if SETS <= slot {
-        return [0; SEMAPHORES];
-    }
-    array::from_fn(|j| LASTS.get(host, slot * SEMAPHORES + j))
+    eight_of(LASTS, host, slot)
 }
 
 // The process becomes the last of those semaphores of a slot that are in the mask.

@@ -1,4 +1,5 @@
-use Rattle.std.proofs.Common.{ℕ, pos, sym, ap, ◌∙◌, arith, rules}
+use Rattle.std.proofs.Common.{ℕ, ℤ, pos, sym, ap, ◌∙◌, arith, rules}
+use Rattle.std.proofs.lemmas.List.{map-id}
 use Rattle.model.specs.Limits.{semaphores}
 use Rattle.host.specs.Rows.{from, undo_at}
 use Rattle.host.proofs.RowLaws.{from_each, from_beyond}
@@ -14,5 +15,6 @@ returns c =
     let a = c.args in
     let r = c.from_fn.ensures.items in
     let (e, l) = c.in-Some.ensures in
-    from_each (pos 0) semaphores c.in-Some.start a.adjustments.now c.from_fn.result r.long (λ i l. let (p, q, k) = r.at i (pos 0) l in search rules)
+    sym (map-id c.from_fn.result)
+    ∙ from_each (λ (x : ℤ). x) (pos 0) semaphores c.in-Some.start a.adjustments.now c.from_fn.result r.long (λ i d l. let (p, q, k) = r.at i d l in search rules)
     ∙ ap (λ (k : ℕ). from (pos 0) semaphores k a.adjustments.now) e
