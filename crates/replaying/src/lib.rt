@@ -43,9 +43,9 @@ pub fn start(file: &[u8], out: &mut [u8]) -> Progress
     };
     Progress {
         position: 0,
-        left: left,
+        left,
         at: runfile::HEAD_BYTES + runfile::ENTRY_BYTES * left,
-        written: written,
+        written,
     }
 }
 

@@ -1,5 +1,4 @@
 -- Laws of the definitions; `Walk` is what a caller goes by.
-pub mod Bytes
 pub mod Numbers
 mod Sizes
 pub mod Loops

@@ -79,10 +79,6 @@ abbrev pub first_of : ℕ → ℕ → ℕ
 first_of zero next = next
 first_of (suc code) next = suc code
 
-pub first_stays : (code next : ℕ) → (code ≡ 0 → ⊥) → first_of code next ≡ code
-first_stays zero next h = absurd (h refl)
-first_stays (suc code) next h = refl
-
 first_last : (code : ℕ) → first_of code 0 ≡ code
 first_last zero = refl
 first_last (suc code) = refl

@@ -29,12 +29,12 @@ abbrev pub Names : ℕ → Result Kind BadFile → Type 0
 Names number r = MatchResult r (λ kind. number_of kind ≡ number) (λ e. (e ≡ UnknownKind) × IsNoKind number)
 
 -- the bytes of a body before its operations or values, and of all of these; or that there is no such kind
-abbrev pub parts_or_none : List ℕ → Result (ℕ × ℕ) BadFile → Type 0
-parts_or_none body r =
+abbrev pub PartsOrNone : List ℕ → Result (ℕ × ℕ) BadFile → Type 0
+PartsOrNone body r =
     MatchResult r
     (λ parts. (parts.0 ≡ fixed_of (kind_in body)) × (parts.1 ≡ each_of (kind_in body) * number_in body) × (0 < parts.0) × (parts.0 ≤ 12) × (parts.1 < 2048))
     (λ e. (e ≡ UnknownKind) × IsNoKind (kind_in body))
 
 -- the bytes that are due to a body, or that there is no such kind
-abbrev pub size_or_none : List ℕ → Result ℕ BadFile → Type 0
-size_or_none body r = MatchResult r (λ size. (size ≡ size_in body) × (0 < size)) (λ e. (e ≡ UnknownKind) × (size_in body ≡ 0))
+abbrev pub SizeOrNone : List ℕ → Result ℕ BadFile → Type 0
+SizeOrNone body r = MatchResult r (λ size. (size ≡ size_in body) × (0 < size)) (λ e. (e ≡ UnknownKind) × (size_in body ≡ 0))

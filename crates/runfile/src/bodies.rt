@@ -6,14 +6,14 @@ ghost use Rattle.std.specs.Prelude.{◌≡◌, ◌<◌, ◌≤◌, pos};
 ghost use Rattle.model.specs.Events.{event_of};
 ghost use Rattle.model.specs.Limits.{operation_bytes};
 ghost use Rattle.runfile.specs.Body.{fixed_of, each_of, kind_in, handed_in, event_in, size_at, body_code, event_at, handed_at};
-ghost use Rattle.runfile.specs.Kinds.{number_of, Names, parts_or_none, size_or_none};
+ghost use Rattle.runfile.specs.Kinds.{number_of, Names, PartsOrNone, SizeOrNone};
 ghost use Rattle.runfile.specs.File.{code_in};
 
 use crate::fields::{byte_at, bytes_at, first, rest};
 use crate::table::BadFile;
 use model::{Event, OPERATION_BYTES, VALUE_BYTES};
 
-// What a body is. Those with `Within` in their name have a wait.
+// What a body is. An operate with a wait is a kind of its own.
 #[derive(Clone, Copy, Debug, PartialEq, Eq)]
 enum Kind {
     Create,
@@ -88,7 +88,7 @@ fn kind_in(body: &[u8]) -> Result<Kind, BadFile>
 
 // The bytes of such a body before its operations or values, and of all of these: their number is the byte before the first.
 fn parts_in(body: &[u8]) -> Result<(usize, usize), BadFile>
-    ensures { parts_or_none body.now result }
+    ensures { PartsOrNone body.now result }
 {
     let (fixed, each) = kind_in(body)?.layout();
     Ok((fixed, each * (byte_at(body, fixed - 1) as usize)))
@@ -96,7 +96,7 @@ fn parts_in(body: &[u8]) -> Result<(usize, usize), BadFile>
 
 // The bytes that are due to such a body.
 fn size_in(body: &[u8]) -> Result<usize, BadFile>
-    ensures { size_or_none body.now result }
+    ensures { SizeOrNone body.now result }
 {
     let (fixed, items) = parts_in(body)?;
     Ok(fixed + items)
