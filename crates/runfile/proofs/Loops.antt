@@ -17,8 +17,8 @@ use Rattle.std.specs.Result.{result_and}
 use Rattle.model.specs.Events.{Event}
 use Rattle.runfile.specs.Table.{head_bytes, entry_bytes, Entry, entry_at, entries_from, table_of, table_end, chains}
 use Rattle.runfile.specs.Body.{body_code}
-use Rattle.runfile.specs.declared.table.BadFile.{BadFile}
-use Rattle.runfile.specs.declared.table.BadFile.TheVariants.{Table, Offsets, UnknownKind, Size}
+use Rattle.runfile.specs.declared.bad_file.BadFile.{BadFile}
+use Rattle.runfile.specs.declared.bad_file.BadFile.TheVariants.{Table, Offsets, UnknownKind, Size}
 use Rattle.runfile.specs.File.{File, bad, good, before, events_of, bodies_of, bad_code, code_in}
 
 -- ---- the entries that are left of n when k are passed

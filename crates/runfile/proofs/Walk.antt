@@ -12,8 +12,8 @@ use Rattle.model.specs.Events.{Event}
 use Rattle.model.proofs.CheckLaws.{and_true}
 use Rattle.runfile.specs.Table.{file_max, head_bytes, entry_bytes, count_in, Entry, entry_at, entries_from, table_of, table_end, chains}
 use Rattle.runfile.specs.Body.{size_at, event_at, body_code, next_at, events_from}
-use Rattle.runfile.specs.declared.table.BadFile.{BadFile}
-use Rattle.runfile.specs.declared.table.BadFile.TheVariants.{Table, Offsets, UnknownKind, Size}
+use Rattle.runfile.specs.declared.bad_file.BadFile.{BadFile}
+use Rattle.runfile.specs.declared.bad_file.BadFile.TheVariants.{Table, Offsets, UnknownKind, Size}
 use Rattle.runfile.specs.File.{File, bad, good, before, events_of, file_of, bad_code, code_of_file, code_of}
 
 -- so many bodies from a position on, the last of which ends the file

@@ -2,8 +2,8 @@
 use Rattle.std.specs.Prelude.{ℕ, zero, suc, cond, List, [], ◌∷◌, ltb, length, Result, Ok, Err}
 use Rattle.model.specs.Events.{Event}
 use Rattle.runfile.specs.Table.{file_max, head_bytes, count_in, Entry, table_of, table_end, chains}
-use Rattle.runfile.specs.declared.table.BadFile.{BadFile}
-use Rattle.runfile.specs.declared.table.BadFile.TheVariants.{Table, Offsets, UnknownKind, Size}
+use Rattle.runfile.specs.declared.bad_file.BadFile.{BadFile}
+use Rattle.runfile.specs.declared.bad_file.BadFile.TheVariants.{Table, Offsets, UnknownKind, Size}
 use Rattle.runfile.specs.Body.{body_code, event_at}
 
 pub data File : Type 0 where

@@ -1,7 +1,7 @@
 -- The kinds as code has them.
 use Rattle.std.specs.Prelude.{ℕ, ◌*◌, ◌<◌, ◌≤◌, ◌≡◌, ◌≢◌, List, Result, MatchResult}
-use Rattle.runfile.specs.declared.table.BadFile.{BadFile}
-use Rattle.runfile.specs.declared.table.BadFile.TheVariants.{UnknownKind}
+use Rattle.runfile.specs.declared.bad_file.BadFile.{BadFile}
+use Rattle.runfile.specs.declared.bad_file.BadFile.TheVariants.{UnknownKind}
 use Rattle.runfile.specs.declared.bodies.Kind.{Kind}
 use Rattle.runfile.specs.declared.bodies.Kind.TheVariants.{Create, Operate, SetValue, Remove, Signal, Exit, Query, OperateWithin, Clock, SetAll, ReadAll, ActAs}
 use Rattle.runfile.specs.Body.{create_kind, operate_kind, set_value_kind, remove_kind, signal_kind, exit_kind, query_kind, operate_within_kind, clock_kind, set_all_kind, read_all_kind, act_as_kind, fixed_of, each_of, kind_in, number_in, size_in}

@@ -9,8 +9,8 @@ ghost use Rattle.runfile.specs.Body.{fixed_of, each_of, kind_in, handed_in, even
 ghost use Rattle.runfile.specs.Kinds.{number_of, Names, PartsOrNone, SizeOrNone};
 ghost use Rattle.runfile.specs.File.{code_in};
 
+use crate::bad_file::BadFile;
 use crate::fields::{byte_at, bytes_at, first, rest};
-use crate::table::BadFile;
 use model::{Event, OPERATION_BYTES, VALUE_BYTES};
 
 // What a body is. An operate with a wait is a kind of its own.

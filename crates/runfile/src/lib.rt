@@ -5,9 +5,11 @@
 // `size_at` leads to the next. proofs/Walk.antt has what such a walk goes by. What is public here asks nothing of its caller.
 #![tactic(auto)]
 
+mod bad_file;
 mod bodies;
 mod fields;
 mod table;
 
+pub use bad_file::BadFile;
 pub use bodies::{event_at, handed_at, size_at};
-pub use table::{BadFile, ENTRY_BYTES, HEAD_BYTES, check, count};
+pub use table::{ENTRY_BYTES, HEAD_BYTES, check, count};

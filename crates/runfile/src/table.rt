@@ -1,8 +1,9 @@
 // The table of contents, and the check of a whole file.
 ghost use Rattle.std.specs.Prelude.{◌≡◌, ◌≤◌, length};
 ghost use Rattle.runfile.specs.Table.{count_in, table_end};
-ghost use Rattle.runfile.specs.File.{bodies_of, bad_code, code_in, code_of, code_of_file};
+ghost use Rattle.runfile.specs.File.{bodies_of, bad_code, code_in, code_of_file};
 
+use crate::bad_file::BadFile;
 use crate::bodies::check_body;
 use crate::fields::bytes_at;
 
@@ -12,33 +13,6 @@ pub const FILE_MAX: usize = 65535;
 pub const HEAD_BYTES: usize = 2;
 
 pub const ENTRY_BYTES: usize = 4;
-
-// What is wrong with a file.
-#[derive(Clone, Copy, Debug, PartialEq, Eq)]
-pub enum BadFile {
-    // The file is too long, or its head or table is cut off.
-    Table,
-    // A body doesn't begin where the one before ended, or the last doesn't end with the file.
-    Offsets,
-    // A body's kind is none.
-    UnknownKind,
-    // A body is empty, or has another length than its kind and number want.
-    Size,
-}
-
-// The code that the file is refused with.
-impl From<BadFile> for u16 {
-    ghost from_gives = { λ bad code. code ≡ code_of bad };
-
-    fn from(bad: BadFile) -> u16 {
-        match bad {
-            BadFile::Table => 201,
-            BadFile::Offsets => 202,
-            BadFile::UnknownKind => 203,
-            BadFile::Size => 204,
-        }
-    }
-}
 
 // The number of events, as the head has it.
 pub fn count(file: &[u8]) -> usize
