@@ -21,6 +21,7 @@ number_of SetAll = set_all_kind
 number_of ReadAll = read_all_kind
 number_of ActAs = act_as_kind
 
+-- no kind has this number
 abbrev pub IsNoKind : ℕ → Type 0
 IsNoKind number = (kind : Kind) → number_of kind ≢ number
 

@@ -1,7 +1,7 @@
 // The bodies: the kinds with their sizes, and the size, the check and the event of a body.
 //
 // A new kind is a variant of `Kind`, with its number in `try_from`, its bytes in `layout`, and an arm in `event_in`.
-// What it means is in specs/Body.antt, and it is an event of the crate model.
+// What it means is in specs/Body.antt and specs/Kinds.antt, and it is an event of the crate model.
 ghost use Rattle.std.specs.Prelude.{◌≡◌, ◌<◌, ◌≤◌, pos};
 ghost use Rattle.model.specs.Events.{event_of};
 ghost use Rattle.model.specs.Limits.{operation_bytes};
@@ -102,7 +102,8 @@ fn size_in(body: &[u8]) -> Result<usize, BadFile>
     Ok(fixed + items)
 }
 
-// The bytes that are due to the body at a position, 0 if there is no such kind.
+// The bytes that are due to the body at a position, 0 if there is no such kind. `size_at` of specs/Body.antt holds the 0: a walk
+// adds what it answers, and no good file has such a kind.
 pub fn size_at(file: &[u8], at: usize) -> usize
     ensures { result ≡ size_at file.now at }
 {
@@ -124,7 +125,7 @@ pub fn check_body(file: &[u8], at: usize, size: usize) -> Result<(), BadFile>
     }
 }
 
-// What stands for the event of an unknown kind, which no good file has.
+// What stands for the event of an unknown kind, which no good file has: `event_at` promises an event of any bytes.
 fn no_event() -> Event
     ensures { result ≡ Event.Query 0 (pos 0) 0 }
 {
