@@ -71,10 +71,3 @@ fn told(tally: Tally) -> Told
         woken: tally.woken,
     }
 }
-
-// Nobody was looked at or woken yet.
-fn nobody() -> Tally
-    ensures { (result.looks ≡ 0) × (result.woken ≡ 0) }
-{
-    Tally::default()
-}

@@ -15,14 +15,14 @@ ghost use Rattle.host.specs.Holding.{Held, time_in, with_queue, queue_in, host_i
 ghost use Rattle.host.specs.Queue.{Room, QueueHeld};
 ghost use Rattle.service.specs.After.{after_in, after_of};
 
-use crate::events::{nobody, not_done, refused, told};
+use crate::events::{not_done, refused, told};
 use host::{HOST_BYTES, adjustments_of, values_of};
 use judging::{judge, slot_of};
 use model::{ALL_ADJUSTMENTS, Engine, Outcome, Told, WAKING_BYTES, Wait};
 use service_checks::check_operate;
 use service_queue::fall_asleep;
 use service_table::{apply, differing_mask};
-use service_waking::wake;
+use service_waking::{Tally, wake};
 use wakings::clear;
 
 // A wait of 0.
@@ -98,7 +98,15 @@ pub fn operate(
                 undo,
             );
             let touched = differing_mask(before, values);
-            told(wake(host, adjustments, wakings, engine, slot, touched, nobody()))
+            told(wake(
+                host,
+                adjustments,
+                wakings,
+                engine,
+                slot,
+                touched,
+                Tally::default(),
+            ))
         }
         Outcome::Sleep => {
             let code = would_sleep(host, process, slot, bytes, names, wait);

@@ -7,13 +7,13 @@ ghost use Rattle.model.specs.Events.{do_set_all};
 ghost use Rattle.host.specs.Holding.{Held, host_in, state_in};
 ghost use Rattle.service.specs.After.{after_in, after_of};
 
-use crate::events::{nobody, refused, told};
+use crate::events::{refused, told};
 use host::{HOST_BYTES, set_at};
 use judging::slot_of;
 use model::{ALL_ADJUSTMENTS, Engine, Told, WAKING_BYTES};
 use service_checks::check_set_all;
 use service_table::assign_all;
-use service_waking::wake;
+use service_waking::{Tally, wake};
 use wakings::clear;
 
 // Every number of a set with so many semaphores, as a mask.
@@ -46,5 +46,13 @@ pub fn set_all(
     let set = set_at(&*host, slot);
     assign_all(&mut *host, &mut *adjustments, slot, values);
     let touched = every_number(set.count);
-    told(wake(host, adjustments, wakings, engine, slot, touched, nobody()))
+    told(wake(
+        host,
+        adjustments,
+        wakings,
+        engine,
+        slot,
+        touched,
+        Tally::default(),
+    ))
 }

@@ -5,13 +5,13 @@ ghost use Rattle.model.specs.Events.{do_set_value};
 ghost use Rattle.host.specs.Holding.{Held, host_in, state_in};
 ghost use Rattle.service.specs.After.{after_in, after_of};
 
-use crate::events::{nobody, refused, told};
+use crate::events::{refused, told};
 use host::HOST_BYTES;
 use judging::{slot_of, value_of};
 use model::{ALL_ADJUSTMENTS, Engine, Told, WAKING_BYTES};
 use service_checks::check_set_value;
 use service_table::assign;
-use service_waking::wake;
+use service_waking::{Tally, wake};
 use wakings::clear;
 
 // The named semaphore is always touched, whatever its value was: cleared adjustments can change an outcome.
@@ -36,5 +36,13 @@ pub fn set_value(
     let at = number as usize;
     assign(&mut *host, &mut *adjustments, slot, at, value_of(value));
     let touched = 1u8 << at;
-    told(wake(host, adjustments, wakings, engine, slot, touched, nobody()))
+    told(wake(
+        host,
+        adjustments,
+        wakings,
+        engine,
+        slot,
+        touched,
+        Tally::default(),
+    ))
 }

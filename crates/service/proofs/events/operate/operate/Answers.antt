@@ -85,8 +85,8 @@ wake-requires c =
     let lent = done_lent (x j) c.requires _ _ c.args.wait _ (passes j) c.args.engine _ _ _ (judged j) e (table j c.apply.ensures) c.clear.ensures in
     record {
       slot = slot_is j;
-      ready = begun_ready c.nobody.ensures lent (done_ready (x j) c.requires _ _ c.args.wait _ (passes j) c.args.engine _ _ _ (judged j) e);
-      looks_le_looks_max = omega (arith, c.nobody.ensures.0);
+      ready = begun_ready c.default.ensures lent (done_ready (x j) c.requires _ _ c.args.wait _ (passes j) c.args.engine _ _ _ (judged j) e);
+      looks_le_looks_max = omega (arith, c.default.ensures.0);
     }
 
 pub would_sleep-code-requires : goal.would_sleep-code-requires
@@ -108,7 +108,7 @@ returns-in-Done c =
     let e = c.in-Done.is in
     let lent = done_lent (x j) c.requires _ _ c.args.wait _ (passes j) c.args.engine _ _ _ (judged j) e (table j c.apply.ensures) c.clear.ensures in
     done_after (x j) c.requires _ _ c.args.wait _ (passes j) c.args.engine _ _ _ (judged j) e (slot j) (values-are j) c.judge-verdict.array_long
-    (begun c.nobody.ensures lent (treated c.args.engine _ _) c.wake.ensures) c.differing_mask-touched.ensures c.told.ensures
+    (begun c.default.ensures lent (treated c.args.engine _ _) c.wake.ensures) c.differing_mask-touched.ensures c.told.ensures
 
 pub returns-in-Sleep : goal.returns-in-Sleep
 returns-in-Sleep c =

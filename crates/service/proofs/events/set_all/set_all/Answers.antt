@@ -49,8 +49,8 @@ wake-requires c =
     let lent = all_lent (host_in c.args.host.now c.args.adjustments.now) c.requires _ _ c.args.values.now z (slot at.After-slot_of-slot) c.assign_all.ensures c.clear.ensures in
     record {
       slot = slot_is at.After-slot_of-slot;
-      ready = begun_ready c.nobody.ensures lent (all_ready (host_in c.args.host.now c.args.adjustments.now) c.requires _ _ c.args.values.now z);
-      looks_le_looks_max = omega (arith, c.nobody.ensures.0);
+      ready = begun_ready c.default.ensures lent (all_ready (host_in c.args.host.now c.args.adjustments.now) c.requires _ _ c.args.values.now z);
+      looks_le_looks_max = omega (arith, c.default.ensures.0);
     }
 
 pub returns : goal.returns
@@ -59,4 +59,4 @@ returns c =
     let z = none at.After-slot_of-slot in
     let lent = all_lent (host_in c.args.host.now c.args.adjustments.now) c.requires _ _ c.args.values.now z (slot at.After-slot_of-slot) c.assign_all.ensures c.clear.ensures in
     all_after (host_in c.args.host.now c.args.adjustments.now) c.requires _ _ c.args.values.now z _ (slot at.After-slot_of-slot) (set_is at.After-set_at-set) c.every_number-touched.ensures
-    (begun c.nobody.ensures lent (treated _ _ _) c.wake.ensures) c.told.ensures
+    (begun c.default.ensures lent (treated _ _ _) c.wake.ensures) c.told.ensures

@@ -55,8 +55,8 @@ wake-requires c =
     let lent = set_lent (host_in c.args.host.now c.args.adjustments.now) c.requires _ _ _ _ z (rw (slot at.After-slot_of-slot, value at.After-value_of) at c.assign.ensures) c.clear.ensures in
     record {
       slot = slot_is at.After-slot_of-slot;
-      ready = begun_ready c.nobody.ensures lent (set_ready (host_in c.args.host.now c.args.adjustments.now) c.requires _ _ _ _ z);
-      looks_le_looks_max = omega (arith, c.nobody.ensures.0);
+      ready = begun_ready c.default.ensures lent (set_ready (host_in c.args.host.now c.args.adjustments.now) c.requires _ _ _ _ z);
+      looks_le_looks_max = omega (arith, c.default.ensures.0);
     }
 
 pub returns : goal.returns
@@ -65,4 +65,4 @@ returns c =
     let z = none at.After-slot_of-slot in
     let lent = set_lent (host_in c.args.host.now c.args.adjustments.now) c.requires _ _ _ _ z (rw (slot at.After-slot_of-slot, value at.After-value_of) at c.assign.ensures) c.clear.ensures in
     set_after (host_in c.args.host.now c.args.adjustments.now) c.requires _ _ _ _ z _ (slot at.After-slot_of-slot) (shifted _ (number_is at.After-slot_of-slot))
-    (begun c.nobody.ensures lent (treated _ _ _) c.wake.ensures) c.told.ensures
+    (begun c.default.ensures lent (treated _ _ _) c.wake.ensures) c.told.ensures
