@@ -29,6 +29,7 @@ pub fn differing_mask(before: [u16; SEMAPHORES], after: [u16; SEMAPHORES]) -> u8
     ensures { result ≡ differing 0 0 before after }
 {
     let mut mask: u8 = 0;
+    // `after` by the index, which the bit needs too.
     for (i, value) in before.iter().enumerate() {
         if *value != after[i] {
             mask = mask | (1u8 << i);
@@ -143,6 +144,7 @@ fn cut_all(values: [u16; SEMAPHORES], undo: [i16; SEMAPHORES]) -> [u16; SEMAPHOR
     ensures { result ≡ undo_all values undo }
 {
     let mut out = values;
+    // `undo` by the index: what a `zip` over `iter_mut` leaves in `out`, the prover doesn't know behind the loop.
     for (k, value) in out.iter_mut().enumerate() {
         *value = cut(*value, undo[k]);
     }

@@ -23,14 +23,12 @@ fn put_numbers(
     ensures { numbers.new ≡ sets numbers.old 0 (numbers_of (reads_from values increase zero 0 count)) }
 {
     let all: &mut [u32] = numbers;
+    // By index: three rows side by side go into every third place, which a chain of zips would hide.
     for n in 0..(count as usize) {
         let at = ONE_READ * n;
-        let value = values[n] as u32;
-        all[at] = value;
-        let rising = increase[n];
-        all[at + 1] = rising;
-        let falling = zero[n];
-        all[at + 2] = falling;
+        all[at] = u32::from(values[n]);
+        all[at + 1] = increase[n];
+        all[at + 2] = zero[n];
     }
 }
 
