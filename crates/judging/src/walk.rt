@@ -9,7 +9,7 @@ ghost use Rattle.judging.specs.Walk.{copies, stopped as stopped_by, walk_from};
 
 use crate::amount::{is_negative, next_adjustment, next_value};
 use crate::operation::{IPC_NOWAIT, SEM_UNDO, has, operation_of};
-use model::{Halt, OPERATION_BYTES, Operation, Outcome, SEMAPHORES};
+use model::{Copies, Halt, OPERATION_BYTES, Operation, Outcome, SEMAPHORES};
 
 // The outcome, and the position of the operation that decided.
 #[derive(Clone, Copy)]
@@ -78,16 +78,13 @@ fn operate(
 }
 
 // The first operation that does not go through decides. The copies are left as the operations before it leave them.
-pub fn judge(
-    values: &mut [u16; SEMAPHORES],
-    adjustments: &mut [i16; SEMAPHORES],
-    bytes: &[u8],
-) -> Verdict
-    ensures { judged result.outcome result.position (copies values.new adjustments.new) ≡ walk_from (operations_of bytes.now) (copies values.old adjustments.old) 0 }
+pub fn judge(copies: &mut Copies, bytes: &[u8]) -> Verdict
+    ensures { judged result.outcome result.position copies.new ≡ walk_from (operations_of bytes.now) copies.old 0 }
 {
     let (pieces, _) = bytes.as_chunks::<OPERATION_BYTES>();
     for (position, piece) in pieces.iter().enumerate() {
-        match operate(values, adjustments, operation_of(piece)) {
+        let operation = operation_of(piece);
+        match operate(&mut copies.values, &mut copies.adjustments, operation) {
             Outcome::Done => {}
             outcome => return Verdict { outcome, position },
         }

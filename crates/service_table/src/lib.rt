@@ -22,7 +22,7 @@ use host::{
     values_of,
 };
 use judging::{cut, value_in};
-use model::{ALL_ADJUSTMENTS, ALL_SEMAPHORES, PROCESSES, SEMAPHORES, VALUE_BYTES};
+use model::{ALL_ADJUSTMENTS, ALL_SEMAPHORES, Copies, PROCESSES, SEMAPHORES, VALUE_BYTES};
 
 // The numbers at which two rows of values differ, as a mask.
 pub fn differing_mask(before: [u16; SEMAPHORES], after: [u16; SEMAPHORES]) -> u8
@@ -45,14 +45,13 @@ pub fn apply(
     process: u8,
     slot: usize,
     mask: u8,
-    values: [u16; SEMAPHORES],
-    undo: [i16; SEMAPHORES],
+    copies: Copies,
 )
-    ensures { host_in host.new adjustments.new ≡ with_copies (host_in host.old adjustments.old) process slot mask (record { values = values; adjustments = undo }) }
+    ensures { host_in host.new adjustments.new ≡ with_copies (host_in host.old adjustments.old) process slot mask copies }
 {
-    put_values(&mut *host, slot, values);
+    put_values(&mut *host, slot, copies.values);
     put_lasts(host, slot, mask, process);
-    put_adjustments(adjustments, process, slot, undo);
+    put_adjustments(adjustments, process, slot, copies.adjustments);
 }
 
 // Puts the adjustments of every process for a slot to 0.

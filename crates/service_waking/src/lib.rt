@@ -22,8 +22,8 @@ use host::{
     HOST_BYTES, adjustments_of, array_of, asleep_of, names_at, process_at, set_at, slot_at,
     slot_byte, values_of,
 };
-use judging::{decided, finishes, judge};
-use model::{ALL_ADJUSTMENTS, Engine, Outcome, PROCESSES, SEMAPHORES, SETS, WAKING_BYTES};
+use judging::{Verdict, decided, finishes, judge};
+use model::{ALL_ADJUSTMENTS, Copies, Engine, Outcome, PROCESSES, SEMAPHORES, SETS, WAKING_BYTES};
 use service_queue::take_out;
 use service_table::{apply, differing_mask};
 use wakings::note;
@@ -61,35 +61,35 @@ fn ending(outcome: Outcome) -> u8
 #[derive(Clone, Copy)]
 struct Looked {
     pub position: usize,
-    pub values: [u16; SEMAPHORES],
-    pub undo: [i16; SEMAPHORES],
+    pub copies: Copies,
     pub outcome: Outcome,
 }
 
 // A look at the sleeper at a position: its array judged on the present state.
 fn look(host: &[u8; HOST_BYTES], adjustments: &[i16; ALL_ADJUSTMENTS], at: usize) -> Looked
     requires { Settleable (host_in host.now adjustments.now) at }
-    ensures { JudgedAs (table_in (host_in host.now adjustments.now)) (get_or (queue_in (row_in host.now)) at no_sleeper) result.outcome result.position (record { values = result.values; adjustments = result.undo }) }
+    ensures { JudgedAs (table_in (host_in host.now adjustments.now)) (get_or (queue_in (row_in host.now)) at no_sleeper) result.outcome result.position result.copies }
 {
     let process = process_at(host, at);
     let slot = slot_at(host, process);
-    let mut values = values_of(host, slot);
-    let mut undo = adjustments_of(adjustments, process, slot);
-    let verdict = judge(&mut values, &mut undo, array_of(host, process));
-    let position = verdict.position;
-    let outcome = verdict.outcome;
+    let mut copies = Copies {
+        values: values_of(host, slot),
+        adjustments: adjustments_of(adjustments, process, slot),
+    };
+    let Verdict { outcome, position } = judge(&mut copies, array_of(host, process));
     match outcome {
         Outcome::Done => Looked {
-            position: position,
-            values: values,
-            undo: undo,
-            outcome: outcome,
+            position,
+            copies,
+            outcome,
         },
         _ => Looked {
-            position: position,
-            values: [0u16; SEMAPHORES],
-            undo: [0i16; SEMAPHORES],
-            outcome: outcome,
+            position,
+            copies: Copies {
+                values: [0; SEMAPHORES],
+                adjustments: [0; SEMAPHORES],
+            },
+            outcome,
         },
     }
 }
@@ -100,18 +100,17 @@ fn settle(
     adjustments: &mut [i16; ALL_ADJUSTMENTS],
     at: usize,
     outcome: Outcome,
-    values: [u16; SEMAPHORES],
-    undo: [i16; SEMAPHORES],
+    copies: Copies,
 )
     requires { Settleable (host_in host.old adjustments.old) at }
-    ensures { host_in host.new adjustments.new ≡ tabled (host_in host.old adjustments.old) (after (table_in (host_in host.old adjustments.old)) (get_or (queue_in (row_in host.old)) at no_sleeper) outcome (record { values = values; adjustments = undo })) }
+    ensures { host_in host.new adjustments.new ≡ tabled (host_in host.old adjustments.old) (after (table_in (host_in host.old adjustments.old)) (get_or (queue_in (row_in host.old)) at no_sleeper) outcome copies) }
 {
     match outcome {
         Outcome::Done => {
             let process = process_at(&*host, at);
             let slot = slot_at(&*host, process);
             let mask = names_at(&*host, process);
-            apply(host, adjustments, process, slot, mask, values, undo);
+            apply(host, adjustments, process, slot, mask, copies);
         }
         _ => {}
     }
@@ -126,14 +125,12 @@ fn finish(
     at: usize,
     looked: Looked,
 )
-    requires { Finishable (lent_in host.old adjustments.old wakings.old woken) at looked.outcome looked.position (record { values = looked.values; adjustments = looked.undo }) }
+    requires { Finishable (lent_in host.old adjustments.old wakings.old woken) at looked.outcome looked.position looked.copies }
     ensures { lent_in host.new adjustments.new wakings.new (woken + 1) ≡ lent_with (lent_in host.old adjustments.old wakings.old woken) (finished (world_in (lent_in host.old adjustments.old wakings.old woken)) at) }
 {
     let process = process_at(&*host, at);
     let outcome = looked.outcome;
-    let values = looked.values;
-    let undo = looked.undo;
-    settle(&mut *host, adjustments, at, outcome, values, undo);
+    settle(&mut *host, adjustments, at, outcome, looked.copies);
     let position = decided(outcome, looked.position);
     note(wakings, woken, process, ending(outcome), position);
     take_out(host, at);

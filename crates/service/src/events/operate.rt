@@ -18,7 +18,7 @@ ghost use Rattle.service.specs.After.{after_in, after_of};
 use crate::events::{not_done, refused, told};
 use host::{HOST_BYTES, adjustments_of, values_of};
 use judging::{judge, slot_of};
-use model::{ALL_ADJUSTMENTS, Engine, Outcome, Told, WAKING_BYTES, Wait};
+use model::{ALL_ADJUSTMENTS, Copies, Engine, Outcome, Told, WAKING_BYTES, Wait};
 use service_checks::check_operate;
 use service_queue::fall_asleep;
 use service_table::{apply, differing_mask};
@@ -82,9 +82,11 @@ pub fn operate(
     };
     let slot = slot_of(identifier);
     let before = values_of(&*host, slot);
-    let mut values = before;
-    let mut undo = adjustments_of(&*adjustments, process, slot);
-    let verdict = judge(&mut values, &mut undo, bytes);
+    let mut copies = Copies {
+        values: before,
+        adjustments: adjustments_of(&*adjustments, process, slot),
+    };
+    let verdict = judge(&mut copies, bytes);
     let outcome = verdict.outcome;
     match outcome {
         Outcome::Done => {
@@ -94,10 +96,9 @@ pub fn operate(
                 process,
                 slot,
                 names,
-                values,
-                undo,
+                copies,
             );
-            let touched = differing_mask(before, values);
+            let touched = differing_mask(before, copies.values);
             told(wake(
                 host,
                 adjustments,

@@ -11,9 +11,9 @@ use Rattle.service_waking.proofs.settle.Goals as goal
 
 pub returns-in-Done : goal.returns-in-Done
 returns-in-Done c =
-    let v : length c.args.values ≡ semaphores = search rules in
-    let u : length c.args.undo ≡ semaphores = search rules in
-    settle_done (host_in c.args.host.now c.args.adjustments.now) c.args.at c.requires (record { values = c.args.values; adjustments = c.args.undo })
+    let v : length c.args.copies.values ≡ semaphores = search rules in
+    let u : length c.args.copies.adjustments ≡ semaphores = search rules in
+    settle_done (host_in c.args.host.now c.args.adjustments.now) c.args.at c.requires c.args.copies
     c.in-Done.is v u
     c.process_at-process.ensures c.slot_at-slot.ensures c.names_at-mask.ensures c.apply.ensures
 

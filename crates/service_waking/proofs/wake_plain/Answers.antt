@@ -28,7 +28,7 @@ next c =
     let r = o.invariant.0.ready in
     let h : l.i < asleep_in (row_in o.host) = rw c.asleep_of-n.ensures at c.loop-i-test.true in
     let s : c.slot_at.result ≡ get_or (row_in o.host sleeps_at) (entry (get_or (row_in o.host order) l.i 0)) 0 = rw (c.process_at-process.ensures, l.invariant.0) at c.slot_at.ensures in
-    let j : JudgedAs (world_in x).table (get_or (world_in x).queue l.i no_sleeper) c.look-looked.result.outcome c.look-looked.result.position (record { values = c.look-looked.result.values; adjustments = c.look-looked.result.undo }) =
+    let j : JudgedAs (world_in x).table (get_or (world_in x).queue l.i no_sleeper) c.look-looked.result.outcome c.look-looked.result.position c.look-looked.result.copies =
     judged_in x l.i (rw (l.invariant.0, l.invariant.1) at c.look-looked.ensures) in
     let q : lent_in f.host f.adjustments f.wakings (o.tally.woken + 1) ≡ lent_with x (finish (world_in x) l.i) = rw (l.invariant.0, l.invariant.1, l.invariant.2, l.invariant.3) at c.finish.ensures in
     let n = plain_again_here _ x r o.tally.looks l.i l.tally.looks l.invariant.4 h (sym s ∙ c.if-slot_at-slot.true) j _ o.invariant.0 (sym c.finishes.ensures ∙ c.if-finishes.true) q in

@@ -58,7 +58,7 @@ next c =
     let e : lent_in l.host l.adjustments l.wakings l.tally.woken ≡ x = same l.invariant.0 l.invariant.1 l.invariant.2 l.invariant.3 in
     let p : c.process_at-process.result ≡ get_or (row_in o.host order) l.i 0 = rw l.invariant.0 at c.process_at-process.ensures in
     let s : c.slot_at.result ≡ get_or (row_in o.host sleeps_at) (entry (get_or (row_in o.host order) l.i 0)) 0 = read-slot l.i l.invariant.0 p c.slot_at.ensures in
-    let j : JudgedAs (world_in x).table (get_or (world_in x).queue l.i no_sleeper) k.outcome k.position (record { values = k.values; adjustments = k.undo }) = looked-at e l.i c.look-looked.ensures in
+    let j : JudgedAs (world_in x).table (get_or (world_in x).queue l.i no_sleeper) k.outcome k.position k.copies = looked-at e l.i c.look-looked.ensures in
     let q : lent_in f.host f.adjustments f.wakings (o.tally.woken + 1) ≡ lent_with x (finish (world_in x) l.i) =
     ap (λ (n : ℕ). lent_in f.host f.adjustments f.wakings (n + 1)) (sym l.invariant.3) ∙ c.finish.ensures ∙ ap (λ (y : Lent). lent_with y (finish (world_in y) l.i)) e in
     let n = quick_again_here c.args.slot x r o.tally.looks o.marks l.i l.tally.looks l.marks l.invariant.4 h c.bit_of-bit.result (rw p at c.bit_of-bit.ensures) c.if-on-ne0.true (sym s ∙ c.if-slot_at-slot.true) j
@@ -96,7 +96,7 @@ finish-requires c =
     let x = lent_in o.host o.adjustments o.wakings o.tally.woken in
     let r = o.invariant.0.ready in
     let e : lent_in l.host l.adjustments l.wakings l.tally.woken ≡ x = same l.invariant.0 l.invariant.1 l.invariant.2 l.invariant.3 in
-    subst⁻¹ (λ (y : Lent). Finishable y l.i k.outcome k.position (record { values = k.values; adjustments = k.undo })) e
+    subst⁻¹ (λ (y : Lent). Finishable y l.i k.outcome k.position k.copies) e
     (record {
       ready = r;
       there = within x r l.i (rw c.asleep_of-n.ensures at c.loop-i-test.true);

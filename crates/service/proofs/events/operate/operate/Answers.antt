@@ -1,6 +1,7 @@
 mod Laws
-use Rattle.std.proofs.Common.{◌≡◌, ℕ, ◌<◌, cond, eqb, sym, refl, ap, ◌∙◌, arith, to_z-of_z}
+use Rattle.std.proofs.Common.{◌≡◌, ℕ, length, rules, ◌<◌, cond, eqb, sym, refl, ap, ◌∙◌, arith, to_z-of_z}
 use mir.Syntax.{w32}
+use Rattle.model.specs.Limits.{semaphores}
 use Rattle.model.specs.State.{Sleeper}
 use Rattle.model.specs.Operation.{operations_of}
 use Rattle.model.specs.Marks.{named_by}
@@ -10,6 +11,7 @@ use Rattle.model.specs.Events.{call, do_operate}
 use Rattle.host.specs.Holding.{Host, host_in, state_in, table_in, time_in}
 use Rattle.judging.specs.Named.{named_within}
 use Rattle.judging.proofs.NamedLaws.{named_within_lem}
+use Rattle.judging.proofs.WalkLaws.{walked}
 use Rattle.service_checks.proofs.FoundSets.{slot_within}
 use Rattle.service_table.specs.Numbered.{Numbered}
 use Rattle.service_table.specs.Written.{tabled, with_copies}
@@ -43,14 +45,14 @@ slot_is c = rw (slot c) (slot_within c.args.identifier)
 values-are : (c : After-judge-verdict) → c.values_of-before.result ≡ values_of (table_in (x c)) (slot_of c.args.identifier)
 values-are c = rw (slot c) at c.values_of-before.ensures ∙ values_in_lem c.args.host.now c.args.adjustments.now _ (slot_within c.args.identifier)
 
-undo-are : (c : After-judge-verdict) → c.adjustments_of-undo.result ≡ adjustments_of (table_in (x c)) c.args.process (slot_of c.args.identifier)
+undo-are : (c : After-judge-verdict) → c.adjustments_of.result ≡ adjustments_of (table_in (x c)) c.args.process (slot_of c.args.identifier)
 undo-are c =
     let p = call_process (x c) c.requires _ _ c.args.wait _ (passes c) in
-    rw (slot c) at c.adjustments_of-undo.ensures
+    rw (slot c) at c.adjustments_of.ensures
     ∙ undo_read (table_in (x c)) c.args.process _ (held_invariant (x c) c.requires).good.adjustments p.least p.most (slot_within c.args.identifier)
 
 -- .. and as the array left them
-judged : (c : After-judge-verdict) → JudgedAs (table_in (x c)) (made c) c.judge-verdict.result.outcome c.judge-verdict.result.position (record { values = c.judge-verdict.new.values; adjustments = c.judge-verdict.new.adjustments })
+judged : (c : After-judge-verdict) → JudgedAs (table_in (x c)) (made c) c.judge-verdict.result.outcome c.judge-verdict.result.position c.judge-verdict.new.copies
 judged c = judged_as (table_in (x c)) (made c) _ _ _ _ _ _ refl (values-are c) (undo-are c) c.judge-verdict.ensures
 
 -- every number is one of the set, and the mask is of what the array names
@@ -60,14 +62,25 @@ numbered c = call_numbered (x c) c.requires _ _ c.args.wait _ (passes c)
 names : (c : After-judge-verdict) → c.in-Ok.names ≡ named_by 0 (operations_of c.args.bytes.now)
 names c = c.in-Ok.ensures.names_value ∙ named_within_lem 0 _ (numbered c)
 
+-- they have a place for each semaphore
+values_long : (c : After-judge-verdict) → length c.judge-verdict.new.copies.values ≡ semaphores
+values_long c =
+    let read : length c.values_of-before.result ≡ semaphores = search rules in
+    (walked _ _ _ _ _ c.judge-verdict.ensures).sizes.values ∙ read
+
+adjustments_long : (c : After-judge-verdict) → length c.judge-verdict.new.copies.adjustments ≡ semaphores
+adjustments_long c =
+    let read : length c.adjustments_of.result ≡ semaphores = search rules in
+    (walked _ _ _ _ _ c.judge-verdict.ensures).sizes.adjustments ∙ read
+
 -- done: the table is as applying says
 table : (c : After-judge-verdict) {y : Host}
-    → y ≡ with_copies (x c) c.args.process c.slot_of-slot.result c.in-Ok.names (record { values = c.judge-verdict.new.values; adjustments = c.judge-verdict.new.adjustments })
-    → y ≡ tabled (x c) (applied (table_in (x c)) (made c) (record { values = c.judge-verdict.new.values; adjustments = c.judge-verdict.new.adjustments }))
+    → y ≡ with_copies (x c) c.args.process c.slot_of-slot.result c.in-Ok.names c.judge-verdict.new.copies
+    → y ≡ tabled (x c) (applied (table_in (x c)) (made c) c.judge-verdict.new.copies)
 table c e =
     rw (slot c) at e
     ∙ copies_applied (x c) (sized_good (x c) (held_invariant (x c) c.requires).good) (made c) (slot_within c.args.identifier)
-    (call_process (x c) c.requires _ _ c.args.wait _ (passes c)) (numbered c) _ c.judge-verdict.array_long c.judge-verdict.array_long2 _ (names c)
+    (call_process (x c) c.requires _ _ c.args.wait _ (passes c)) (numbered c) _ (values_long c) (adjustments_long c) _ (names c)
 
 pub check_operate-requires : goal.check_operate-requires
 check_operate-requires c = held_seated (host_in c.args.host.now c.args.adjustments.now) c.requires
@@ -107,7 +120,7 @@ returns-in-Done c =
     let j = (goal.at.returns-in-Done c).After-judge-verdict in
     let e = c.in-Done.is in
     let lent = done_lent (x j) c.requires _ _ c.args.wait _ (passes j) c.args.engine _ _ _ (judged j) e (table j c.apply.ensures) c.clear.ensures in
-    done_after (x j) c.requires _ _ c.args.wait _ (passes j) c.args.engine _ _ _ (judged j) e (slot j) (values-are j) c.judge-verdict.array_long
+    done_after (x j) c.requires _ _ c.args.wait _ (passes j) c.args.engine _ _ _ (judged j) e (slot j) (values-are j) (values_long j)
     (begun c.default.ensures lent (treated c.args.engine _ _) c.wake.ensures) c.differing_mask-touched.ensures c.told.ensures
 
 pub returns-in-Sleep : goal.returns-in-Sleep
