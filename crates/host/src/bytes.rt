@@ -9,6 +9,7 @@ pub trait Number: Copy + Drop + Default {
 
     ghost WIDTH: { ℕ };
 
+    // The number that a value stands for.
     ghost value: { Self → ℕ };
 
     fn read(bytes: &[u8], at: usize) -> Self
@@ -20,6 +21,7 @@ pub trait Number: Copy + Drop + Default {
         ensures written { bytes.new ≡ sets bytes.old at (bytes_of WIDTH (value self)) }
         ensures small { value self < 256 ^ WIDTH };
 
+    // The default stands for 0.
     ghost zero: { (x : Self) → Self.is_default x → value x ≡ 0 };
 }
 

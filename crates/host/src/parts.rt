@@ -7,6 +7,7 @@ use crate::bytes::Number;
 use model::{ALL_BYTES, ALL_SEMAPHORES, PROCESSES, SETS};
 use std::marker::PhantomData;
 
+// A part: its place, how many numbers it has, and their type.
 #[derive(Clone, Copy)]
 pub struct Part<T> {
     pub at: usize,
@@ -38,6 +39,7 @@ impl<T: Number> Part<T> {
     }
 }
 
+// A part by its place and count. A macro, since no constant calls a function.
 macro_rules! part {
     ($at:expr, $count:expr) => {
         Part {

@@ -35,7 +35,8 @@ pub fn put_process(host: &mut [u8; HOST_BYTES], at: usize, process: u8)
     ORDER.put(host, at, process);
 }
 
-// Where a process stands in a part by process; beyond it for no process.
+// Where a process stands in a part by process; beyond it for no process. No Option: a part reads as 0 there already, and a
+// subtraction that goes round needs no jump.
 pub fn entry_of(process: u8) -> usize
     ensures { result ≡ entry process }
 {

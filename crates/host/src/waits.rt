@@ -26,7 +26,7 @@ fn start_at(host: &[u8; HOST_BYTES], process: u8) -> u64
     STARTS.get(host, entry_of(process))
 }
 
-// The wait of a process, as a number.
+// The wait of a process, as a number; no Wait, since a row may have a number that is too large for one.
 fn wait_at(host: &[u8; HOST_BYTES], process: u8) -> u64
     ensures { result ≡ wait_in (row_in host.now) process }
 {
