@@ -23,7 +23,7 @@ pub fn operation_of(bytes: &[u8; OPERATION_BYTES]) -> Operation
     }
 }
 
-// Is one of the bits on?
+// Is the bit on?
 pub fn has(flags: u16, bit: u16) -> bool
     ensures { result ≡ has_bit flags bit }
 {

@@ -11,7 +11,8 @@ use crate::amount::{is_negative, next_adjustment, next_value};
 use crate::operation::{IPC_NOWAIT, SEM_UNDO, has, operation_of};
 use model::{Copies, Halt, OPERATION_BYTES, Operation, Outcome, SEMAPHORES};
 
-// The outcome, and the position of the operation that decided.
+// The outcome, and the position of the operation that decided. A done array has one too, the number of operations: so the promise
+// of `judge` has it, by `judged` of the model.
 #[derive(Clone, Copy)]
 pub struct Verdict {
     pub outcome: Outcome,
