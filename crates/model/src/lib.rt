@@ -221,7 +221,7 @@ pub enum Event {
 }
 
 // What an event tells, beside the wakings in the list that it was lent: the operation that decided, its code, its value, its
-// looks, and how many it woke.
+// looks, and how many it woke. The code is a number, since C has it so and a line is promised for every number.
 #[derive(Clone, Copy)]
 pub struct Told {
     pub position: Position,

@@ -20,7 +20,7 @@ pub mod set_all;
 pub mod set_value;
 pub mod signal;
 
-// What an event tells that is refused. The code goes on as a number: C has it so, and a line is promised for every number.
+// What an event tells that is refused.
 fn refused(refusal: Refusal) -> Told
     ensures { result ≡ telling (pos (errno_of refusal)) 0 0 0 }
 {

@@ -1,7 +1,8 @@
 // A part of the service: the checks of each event, in the order in which they are asked. Each refuses with the first that
 // applies.
 //
-// They read the row alone, so their promises hold whatever the adjustments are.
+// They read the row alone, so their promises hold whatever the adjustments are. Host, process and identifier stay parameters:
+// each event is handed just these and asks once, so that a struct of them would be made for one call.
 #![tactic(auto)]
 
 ghost use Rattle.std.specs.Prelude.{◌≡◌, not, ◌||◌, List, ◌%◌, ◌<◌, eqb, ltb, leb, ℤ, IfOk};
