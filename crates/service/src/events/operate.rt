@@ -90,14 +90,7 @@ pub fn operate(
     let outcome = verdict.outcome;
     match outcome {
         Outcome::Done => {
-            apply(
-                &mut *host,
-                &mut *adjustments,
-                process,
-                slot,
-                names,
-                copies,
-            );
+            apply(&mut *host, &mut *adjustments, process, slot, names, copies);
             let touched = differing_mask(before, copies.values);
             told(wake(
                 host,
