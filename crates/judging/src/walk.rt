@@ -32,10 +32,10 @@ fn stopped(flags: u16) -> Outcome
 
 // An operation whose number no semaphore has: value and adjustment read as 0, every amount from 0 on fits both, and nothing is
 // stored.
-fn unheld(values: &[u16], adjustments: &[i16], operation: Operation) -> Outcome
-    requires values_len_bound { length values.now ≤ operation.number }
-    requires adjustments_len_bound { length adjustments.now ≤ operation.number }
-    ensures { (i : ℕ) → judged result i (copies values.now adjustments.now) ≡ step (copies values.now adjustments.now) operation i }
+fn unheld(copies: &Copies, operation: Operation) -> Outcome
+    requires values_too { length copies.now.values ≤ operation.number }
+    requires adjustments_too { length copies.now.adjustments ≤ operation.number }
+    ensures { (i : ℕ) → judged result i copies.now ≡ step copies.now operation i }
 {
     if is_negative(operation.amount) {
         stopped(operation.flags)
@@ -45,34 +45,25 @@ fn unheld(values: &[u16], adjustments: &[i16], operation: Operation) -> Outcome
 }
 
 // One operation: it changes the numbers of its semaphore only if it goes through.
-fn operate(
-    values: &mut [u16; SEMAPHORES],
-    adjustments: &mut [i16; SEMAPHORES],
-    operation: Operation,
-) -> Outcome
-    ensures { (i : ℕ) → judged result i (copies values.new adjustments.new) ≡ step (copies values.old adjustments.old) operation i }
+fn operate(copies: &mut Copies, operation: Operation) -> Outcome
+    ensures { (i : ℕ) → judged result i copies.new ≡ step copies.old operation i }
 {
     let number = operation.number as usize;
     let amount = operation.amount;
     if SEMAPHORES <= number {
-        return unheld(values, adjustments, operation);
+        return unheld(copies, operation);
     }
-    let value = values[number];
-    match next_value(value, amount) {
+    match next_value(copies.values[number], amount) {
         Err(Halt::Over) => Outcome::Range,
         Err(Halt::Stop) => stopped(operation.flags),
         Ok(new) => {
             if has(operation.flags, SEM_UNDO) {
-                match next_adjustment(adjustments[number], amount) {
-                    None => {
-                        return Outcome::Range;
-                    }
-                    Some(adjustment) => {
-                        adjustments[number] = adjustment;
-                    }
+                match next_adjustment(copies.adjustments[number], amount) {
+                    None => return Outcome::Range,
+                    Some(adjustment) => copies.adjustments[number] = adjustment,
                 }
             }
-            values[number] = new;
+            copies.values[number] = new;
             Outcome::Done
         }
     }
@@ -85,7 +76,7 @@ pub fn judge(copies: &mut Copies, bytes: &[u8]) -> Verdict
     let (pieces, _) = bytes.as_chunks::<OPERATION_BYTES>();
     for (position, piece) in pieces.iter().enumerate() {
         let operation = operation_of(piece);
-        match operate(&mut copies.values, &mut copies.adjustments, operation) {
+        match operate(copies, operation) {
             Outcome::Done => {}
             outcome => return Verdict { outcome, position },
         }

@@ -26,7 +26,7 @@ returns-in-None c i =
     law.out _ _ o i _
     (value_is _ o.amount _ _ (search rules) c.next_value.ensures c.in-Ok.is)
     (sym c.has.ensures ∙ c.if-has.true)
-    (adjustment_is (get_or c.args.adjustments.now o.number (pos 0)) o.amount _ _ (search rules) (search rules) c.next_adjustment.ensures c.in-None.is)
+    (adjustment_is (get_or c.args.copies.now.adjustments o.number (pos 0)) o.amount _ _ (search rules) (search rules) c.next_adjustment.ensures c.in-None.is)
 
 pub returns-in-Err-Over : goal.returns-in-Err-Over
 returns-in-Err-Over c i =
@@ -45,7 +45,7 @@ returns-after-has c i =
     elim c.if-has.branch [
       | then-has+in-Some w ↦
           let f : SFits w16 w.in-Some.adjustment = search rules in
-          rw (w.adjustments-is, to_z-of_z f) (law.undoing _ _ o i _ _ to (sym c.has.ensures ∙ w.if-has.true)
-          (adjustment_is (get_or c.args.adjustments.now o.number (pos 0)) o.amount _ _ (search rules) (search rules) w.next_adjustment.ensures w.in-Some.is))
-      | else-has w ↦ rw w.adjustments-is (law.plain _ _ o i _ to (sym c.has.ensures ∙ w.if-has.false))
+          rw (w.copies-is, to_z-of_z f) (law.undoing _ _ o i _ _ to (sym c.has.ensures ∙ w.if-has.true)
+          (adjustment_is (get_or c.args.copies.now.adjustments o.number (pos 0)) o.amount _ _ (search rules) (search rules) w.next_adjustment.ensures w.in-Some.is))
+      | else-has w ↦ rw w.copies-is (law.plain _ _ o i _ to (sym c.has.ensures ∙ w.if-has.false))
     ]
