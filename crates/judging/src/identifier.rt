@@ -29,10 +29,3 @@ pub fn value_of(value: i32) -> u16
 {
     if in_range(value) { value as u16 } else { 0 }
 }
-
-// A code as an event answers it.
-pub fn answer(code: u8) -> i32
-    ensures { result ≡ pos code }
-{
-    i32::from(code)
-}

@@ -19,7 +19,7 @@ mod walk;
 
 pub use amount::{cut, is_negative};
 pub use checks::check_array;
-pub use identifier::{answer, in_range, slot_of, value_of};
+pub use identifier::{in_range, slot_of, value_of};
 pub use outcome::{decided, finishes};
 pub use permission::{owns, permits};
 pub use setting::{all_in_range, value_in};

@@ -222,7 +222,7 @@ pub enum Event {
 
 // What an event tells, beside the wakings in the list that it was lent: the operation that decided, its code, its value, its
 // looks, and how many it woke. The code is a number, since C has it so and a line is promised for every number.
-#[derive(Clone, Copy)]
+#[derive(Clone, Copy, Default)]
 pub struct Told {
     pub position: Position,
     pub code: i32,
@@ -233,7 +233,7 @@ pub struct Told {
 
 // What a query answers; its looks are 0 like those of every event that wakes nobody. The host stays as it is.
 #[repr(C)]
-#[derive(Clone, Copy)]
+#[derive(Clone, Copy, Default)]
 pub struct Queried {
     pub code: i32,
     pub value: u16,

@@ -25,11 +25,8 @@ fn refused(refusal: Refusal) -> Told
     ensures { result ≡ telling (pos (errno_of refusal)) 0 0 0 }
 {
     Told {
-        position: None,
         code: i32::from(refusal),
-        value: 0,
-        looks: 0,
-        woken: 0,
+        ..Told::default()
     }
 }
 
@@ -38,11 +35,8 @@ fn done(value: u32) -> Told
     ensures { result ≡ telling (pos 0) value 0 0 }
 {
     Told {
-        position: None,
-        code: 0,
-        value: value,
-        looks: 0,
-        woken: 0,
+        value,
+        ..Told::default()
     }
 }
 
@@ -52,10 +46,8 @@ fn not_done(code: i32, outcome: Outcome, position: usize) -> Told
 {
     Told {
         position: decided(outcome, position),
-        code: code,
-        value: 0,
-        looks: 0,
-        woken: 0,
+        code,
+        ..Told::default()
     }
 }
 
@@ -64,10 +56,8 @@ fn told(tally: Tally) -> Told
     ensures { result ≡ telling (pos 0) 0 tally.looks tally.woken }
 {
     Told {
-        position: None,
-        code: 0,
-        value: 0,
         looks: tally.looks,
         woken: tally.woken,
+        ..Told::default()
     }
 }

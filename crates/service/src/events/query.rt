@@ -17,13 +17,7 @@ fn refused(refusal: Refusal) -> Queried
 {
     Queried {
         code: i32::from(refusal),
-        value: 0,
-        last: 0,
-        increase: 0,
-        zero: 0,
-        increase_mask: 0,
-        zero_mask: 0,
-        looks: 0,
+        ..Queried::default()
     }
 }
 
