@@ -1,7 +1,9 @@
 // Writes the output lines, byte by byte as specs/Text.antt says, into a lent buffer.
 //
 // A line goes to a position of the buffer, and the position behind it is the answer. Where less than LINE_BYTES are left, a
-// line function changes nothing and answers the position it was given; proofs/Lengths.antt has that no line is longer.
+// line function changes nothing and answers the position it was given; proofs/Lengths.antt has that no line is longer. The public
+// functions take buffer and position apart, as their callers hold them. Four begin and end alike: one function of them all would
+// take the line as a closure, with its contract written at each call, which is no plainer.
 #![tactic(auto)]
 
 mod writer;

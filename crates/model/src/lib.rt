@@ -22,7 +22,7 @@ pub const VALUE_MAX: u16 = 32767;
 // The greatest mode: nine permission bits.
 pub const MODE_MAX: u16 = 511;
 
-// What is asked of a set, as a bit of the three that count for the caller.
+// What is asked of a set, as a bit of the three that count for the caller: numbers, since `permits` answers for any of the three.
 pub const READ: u16 = 4;
 
 pub const ALTER: u16 = 2;
@@ -231,7 +231,8 @@ pub struct Told {
     pub woken: usize,
 }
 
-// What a query answers; its looks are 0 like those of every event that wakes nobody. The host stays as it is.
+// What a query answers; its looks are 0 like those of every event that wakes nobody. The host stays as it is. The code is a number:
+// C has it so.
 #[repr(C)]
 #[derive(Clone, Copy, Default)]
 pub struct Queried {
@@ -261,7 +262,8 @@ pub struct QueriedSet {
     pub zero_masks: [u8; SEMAPHORES],
 }
 
-// What a reading answers: its code, and how many semaphores it shows. Their numbers stand in what it was lent for them.
+// What a reading answers: its code, and how many semaphores it shows. Their numbers stand in what it was lent for them. The code is
+// a number, since `read_line` promises a line for every number.
 #[derive(Clone, Copy)]
 pub struct Reading {
     pub code: i32,

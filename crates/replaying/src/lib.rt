@@ -2,7 +2,7 @@
 //
 // `start` checks the file and writes the first line; `piece` runs events on the host that it is lent and writes their lines
 // while there is room for one more. Each promises one equation with its definition in specs/Replay.antt; proofs/Whole.antt
-// has that the pieces put together are the whole text.
+// has that the pieces put together are the whole text. The host's row and adjustments stand apart, as the service is lent them.
 #![tactic(auto)]
 
 ghost use Rattle.std.specs.Prelude.{◌≡◌, ◌+◌, ◌≤◌, length};

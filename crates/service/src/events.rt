@@ -1,4 +1,4 @@
-// The eleven events, each in its own file, and what they tell.
+// The eleven events, each in its own file, and what they tell. What is lent stands apart in each: C lends it so (`vairolent_create_in`).
 ghost use Rattle.std.specs.Prelude.{◌≡◌, ◌%◌, pos};
 ghost use Rattle.model.specs.Refusal.{errno_of};
 ghost use Rattle.model.specs.Judge.{decided_at};

@@ -6,6 +6,9 @@
 // event. Create, remove, signal, query, read all, the clock and act as wake nobody by a rule; operate, set value, set all and exit go by the
 // engine they are handed. `run` does any of them. `query_set` shows what a query of each semaphore of a set would, by one walk over its
 // sleepers; the event read all has its numbers from it.
+//
+// Row, adjustments and list stand apart in every signature, and the premise `Held` in every contract, with no struct that holds them:
+// C lends them apart, as `vairolent_create_in` does.
 #![tactic(auto)]
 
 mod events;

@@ -1,4 +1,5 @@
 // Who waits at the semaphores of a set, found in one walk: a sleeper stops at one operation, so a walk tells it for all of them.
+// Row and adjustments stand apart: C lends them so (`vairolent_query_in`).
 ghost use Rattle.std.specs.Prelude.{◌≡◌, ◌%◌, false, not, ◌&&◌, ◌==◌, bit_or, slice_index, is_none};
 ghost use Rattle.model.specs.Limits.{semaphores};
 ghost use Rattle.model.specs.Operation.{operations_of, is_negative, has_bit};

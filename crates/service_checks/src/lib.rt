@@ -2,7 +2,8 @@
 // applies.
 //
 // They read the row alone, so their promises hold whatever the adjustments are. Host, process and identifier stay parameters:
-// each event is handed just these and asks once, so that a struct of them would be made for one call.
+// each event is handed just these and asks once, so that a struct of them would be made for one call. That the row has its sleepers
+// seated stands in the clauses, and in no type: the row is a program's own array, which C lends.
 #![tactic(auto)]
 
 ghost use Rattle.std.specs.Prelude.{◌≡◌, not, ◌||◌, List, ◌%◌, ◌<◌, eqb, ltb, leb, ℤ, IfOk};

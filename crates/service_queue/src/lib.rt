@@ -1,4 +1,5 @@
-// A part of the service: the queue of the sleepers, in the host's row.
+// A part of the service: the queue of the sleepers, in the host's row. That the row holds a queue stands in the clauses, and in no
+// type: the row is a program's own array, which C lends.
 #![tactic(auto)]
 
 ghost use Rattle.std.specs.Prelude.{◌≡◌, ◌≢◌, Bool, false, [], ◌∷◌, ◌++◌, ◌<◌, ◌≤◌, pos, length, MatchOption};

@@ -1,7 +1,8 @@
 // A part of the service: what events and judged arrays do to the numbers of the semaphores.
 //
 // Each function is lent the host's row and its adjustments, and promises the whole host after it by an equation with the
-// model's definition.
+// model's definition. The two stand apart, with no struct that holds both: C lends them apart, as `vairolent_create_in` does.
+// A slot below 4 is asked for by a clause: as a type with that invariant it was tried, and the proofs did not close.
 #![tactic(auto)]
 
 ghost use Rattle.std.specs.Prelude.{◌≡◌};

@@ -1,7 +1,8 @@
 // A part of the service: the two waking rules, as labelled loops over the queue, on the host that is lent.
 //
 // A rule is lent the row, the adjustments and the list of wakings; it is handed the looks and wakings so far, and returns
-// them. Its promise is one equation with the model's rule on the world that they hold.
+// them. Its promise is one equation with the model's rule on the world that they hold. What is lent stands apart, and `Ready` in the
+// clauses: C lends it apart, as `vairolent_operate_in` does.
 #![tactic(auto)]
 
 ghost use Rattle.std.specs.Prelude.{◌≡◌, ◌+◌, ◌≤◌, nat_abs, length, get_or};
@@ -43,7 +44,7 @@ pub fn bit_of(process: u8) -> u8
     1u8 << (process - 1)
 }
 
-// The code that a finished sleeper is told: 0, 11 or 34.
+// The code that a finished sleeper is told: 0, 11 or 34. It is a number, as the list of wakings has it for C.
 fn ending(outcome: Outcome) -> u8
     ensures { result ≡ nat_abs (code_of outcome) }
 {
@@ -137,7 +138,7 @@ fn finish(
 }
 
 // "at the first that is finished, take it out and begin again at the oldest": the round is left from inside its judging
-// loop and started anew.
+// loop and started anew. It differs from the quick rule in what a look does to the marks, and in no constant or type.
 fn wake_plain(
     host: &mut [u8; HOST_BYTES],
     adjustments: &mut [i16; ALL_ADJUSTMENTS],
@@ -249,7 +250,8 @@ fn wake_quick(
     }
 }
 
-// A set is treated by the engine's rule. Where nothing is touched nobody is marked, and the quick rule looks at nobody.
+// A set is treated by the engine's rule. Where nothing is touched nobody is marked, and the quick rule looks at nobody. The engine is
+// a value, and no closure: the claim that both engines agree is over it (`waker`).
 pub fn wake(
     host: &mut [u8; HOST_BYTES],
     adjustments: &mut [i16; ALL_ADJUSTMENTS],

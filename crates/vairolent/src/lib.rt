@@ -3,7 +3,8 @@
 // Each event is lent the parts of a host and hands them on to the service, where it wakes with the quick engine; what it
 // promises is the service's own promise, with what is told as C has it (proofs/Calls.antt). So does a whole set, which is shown and
 // wakes nobody: it has all that the event read all shows, and more. Nothing at run time asks for the premise `Held`: a caller in
-// another language keeps it, by handing in the parts of `vairolent_fresh`, as the last event left them.
+// another language keeps it, by handing in the parts of `vairolent_fresh`, as the last event left them. The functions look alike and
+// take their parts one by one: each is a symbol of C with C's arguments.
 #![tactic(auto)]
 
 ghost use Rattle.std.specs.Prelude.{◌≡◌, []};
@@ -33,7 +34,7 @@ pub struct Fresh {
     pub wakings: [u8; WAKING_BYTES],
 }
 
-// The operation that decided: whether there is one, and its position, 0 if there is none.
+// The operation that decided: whether there is one, and its position, 0 if there is none. C has no Option.
 #[repr(C)]
 #[derive(Clone, Copy)]
 pub struct Decided {

@@ -3,7 +3,8 @@
 //
 // Each function asks nothing of its caller and promises one equation of specs/Wakings.antt. An event clears its list,
 // notes whom it wakes, one place behind the other, and tells how many they are; proofs/ListLaws.antt has that the list
-// then is that of its wakings.
+// then is that of its wakings. It is bytes and no array of structs, and a code is a byte: C has the list so, as
+// `struct vairolent_waking`. The three readers differ in which byte they read, and one of them all would be no shorter.
 #![tactic(auto)]
 
 ghost use Rattle.std.specs.Prelude.{◌≡◌, [], get_or, set, pos};

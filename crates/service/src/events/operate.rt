@@ -35,7 +35,8 @@ fn at_once(wait: Wait) -> bool
     }
 }
 
-// A call that would sleep: with a wait of 0 it is refused and nothing changes, else it falls asleep. The answer is its code.
+// A call that would sleep: with a wait of 0 it is refused and nothing changes, else it falls asleep. The answer is its code,
+// the number that is told.
 fn would_sleep(
     host: &mut [u8; HOST_BYTES],
     process: u8,
