@@ -1,6 +1,7 @@
 -- Laws of the row.
 pub mod RowLaws
 pub mod Numbers
+pub mod Joined
 pub mod PartLaws
 pub mod SleeperLaws
 pub mod Whole

@@ -43,7 +43,7 @@ number_same (suc w) h h' k s =
     ap₂ (λ (x y : ℕ). x + 256 * y) (s k (omega arith) (omega arith)) (number_same w h h' (k + 1) (λ j a b. s j (omega arith) (omega arith)))
 
 -- a number of a + b bytes is one of a bytes, and behind it one of b
-further : (a n : ℕ) → 256 ^ suc a * n ≡ 256 * (256 ^ a * n)
+pub further : (a n : ℕ) → 256 ^ suc a * n ≡ 256 * (256 ^ a * n)
 further a n = rw pow-succ' (mul_assoc 256 (256 ^ a) n)
 
 pub number_joined : (a b : ℕ) (h : List ℕ) (k : ℕ) → number_at (a + b) h k ≡ number_at a h k + 256 ^ a * number_at b h (k + a)

@@ -5,6 +5,7 @@ use mathlib.Core.List.{List}
 use Prim.Native.Nat.{ℕ, ◌+◌, ◌*◌, ◌/◌, ◌<◌}
 use lib.Dec.{leb}
 use lib.ListN.{length}
+use borrow.Author.Tests.{not-false}
 use Rattle.model.specs.declared.Operation.{Operation}
 use Rattle.model.specs.Operation.{operation_at, is_zero}
 use Rattle.model.specs.Checks.{check, number_too_high, permitted}
@@ -24,6 +25,9 @@ pub both_allowed : (reads alters zero : Bool) → reads && alters ≡ true → t
 both_allowed true b true h = refl
 both_allowed true b false h = sym h
 both_allowed false b z h = clash h
+
+pub both_is : (reads alters zero : Bool) → not (reads && alters) ≡ false → true ≡ cond zero reads alters
+both_is reads alters zero e = both_allowed reads alters zero (not-false _ e)
 
 pub and_true : (b : Bool) → b && true ≡ b
 and_true true = refl
