@@ -4,15 +4,12 @@
 ghost use Rattle.std.specs.Prelude.{◌≡◌};
 ghost use Rattle.host.specs.Holding.{host_in};
 ghost use Rattle.replaying.specs.Replay.{stage_in, last_stage};
-ghost use Rattle.console.specs.Replayed.{Replayed};
 
 use host::{HOST_BYTES, fresh, no_adjustments};
 use model::{ALL_ADJUSTMENTS, Engine};
 use replaying::{Progress, piece, start};
 
-// The file descriptors of standard input and output.
-const STANDARD_INPUT: i32 = 0;
-
+// The file descriptor of standard output.
 const STANDARD_OUTPUT: i32 = 1;
 
 // Writes the text of a file, in large pieces, and answers the progress behind all of its events. Whatever the host held, it
@@ -43,16 +40,4 @@ pub fn print(
         whole = whole && io::write_all(STANDARD_OUTPUT, &out[..progress.written]);
     }
     progress
-}
-
-// Replays the run file on standard input: what a program of one engine does. At most one byte more than the longest file is
-// read: by it a longer one is noticed.
-pub fn replay(engine: Engine) -> Progress
-    ensures { Replayed engine result }
-{
-    let mut space = io::large_buffer();
-    let read = io::read_full(STANDARD_INPUT, &mut space);
-    let mut host = fresh();
-    let mut adjustments = no_adjustments();
-    print(&mut host, &mut adjustments, engine, &space[..read])
 }

@@ -1,19 +1,35 @@
 // Replays a run file from standard input with the quick engine, and writes its lines on standard output.
 #![tactic(auto)]
 
+ghost use Rattle.std.specs.Prelude.{◌≡◌};
 ghost use Rattle.model.specs.declared.Engine.TheVariants.{Quick};
-ghost use Rattle.console.specs.Replayed.{Replayed};
+ghost use Rattle.host.specs.Holding.{host_in};
+ghost use Rattle.replaying.specs.Replay.{stage_in, last_stage};
 
-use model::Engine;
+use host::HOST_BYTES;
+use model::{ALL_ADJUSTMENTS, Engine};
 use replaying::Progress;
 
-// Replays with the quick engine: what the program is named for.
-fn quick() -> Progress
-    ensures { Replayed Quick result }
+// The file descriptor of standard input.
+const STANDARD_INPUT: i32 = 0;
+
+// Replays a file with the quick engine: what the program is named for. The other program differs in the engine alone; one function of
+// both would hand over what standard input holds, of which no contract speaks, and this promise is of any file.
+fn quick(
+    host: &mut [u8; HOST_BYTES],
+    adjustments: &mut [i16; ALL_ADJUSTMENTS],
+    file: &[u8],
+) -> Progress
+    ensures { stage_in (host_in host.new adjustments.new) result ≡ last_stage Quick file.now }
 {
-    console::replay(Engine::Quick)
+    console::print(host, adjustments, Engine::Quick, file)
 }
 
+// At most one byte more than the longest file is read: by it a longer one is noticed.
 fn main() {
-    quick();
+    let mut space = io::large_buffer();
+    let read = io::read_full(STANDARD_INPUT, &mut space);
+    let mut host = host::fresh();
+    let mut adjustments = host::no_adjustments();
+    quick(&mut host, &mut adjustments, &space[..read]);
 }

@@ -1,2 +1,0 @@
--- What a replay of standard input comes to.
-pub mod Replayed
