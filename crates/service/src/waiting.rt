@@ -7,12 +7,13 @@ ghost use Rattle.model.specs.Marks.{bit_of};
 ghost use Rattle.host.specs.Parts.{row_in, sleeps_at, sizes};
 ghost use Rattle.host.specs.Holding.{Held, host_in, table_in, queue_in, entry, room_in};
 ghost use Rattle.judging.specs.Stop.{stop_from, goes_through, number_of, amount_of};
-ghost use Rattle.service_table.specs.Numbered.{IsSlot, IsProcess};
+ghost use Rattle.service_table.specs.Numbered.{IsSlot};
 ghost use Rattle.service.specs.Waiting.{waiters_of, wait_if};
 
 use host::{HOST_BYTES, room_of, size_at, slot_byte, values_of};
 use judging::{Stop, is_negative, stop_of};
 use model::{ALL_ADJUSTMENTS, PROCESSES, SEMAPHORES};
+use service_table::Process;
 use service_waking::bit_of;
 
 // At each semaphore of a set the processes that wait there, as masks: for an increase, and for zero; and how many arrays were
@@ -48,20 +49,19 @@ fn wait_at(increase: &mut [u8; SEMAPHORES], zero: &mut [u8; SEMAPHORES], stop: S
 // it is among those who were judged.
 fn judge_one(
     host: &[u8; HOST_BYTES],
-    process: u8,
+    process: Process,
     values: [u16; SEMAPHORES],
     judged: &mut u8,
 ) -> Option<Stop>
-    requires process { IsProcess process }
-    requires process_value { has_bit judged.old (bit_of process) ≡ false }
-    ensures number_value { number_of result ≡ (stop_from (operations_of (room_in (row_in host.now) process)) values).operation.number % semaphores }
-    ensures amount_value { amount_of result ≡ (stop_from (operations_of (room_in (row_in host.now) process)) values).operation.amount }
-    ensures none_value { is_none result ≡ goes_through (operations_of (room_in (row_in host.now) process)) values }
-    ensures judged_after { judged.new ≡ bit_or judged.old (bit_of process) }
+    requires { has_bit judged.old (bit_of process.number) ≡ false }
+    ensures number_value { number_of result ≡ (stop_from (operations_of (room_in (row_in host.now) process.number)) values).operation.number % semaphores }
+    ensures amount_value { amount_of result ≡ (stop_from (operations_of (room_in (row_in host.now) process.number)) values).operation.amount }
+    ensures none_value { is_none result ≡ goes_through (operations_of (room_in (row_in host.now) process.number)) values }
+    ensures judged_after { judged.new ≡ bit_or judged.old (bit_of process.number) }
 {
     let mut copy = values;
     *judged |= bit_of(process);
-    stop_of(&mut copy, room_of(host, process))
+    stop_of(&mut copy, room_of(host, process.number))
 }
 
 // The walk goes by process: a process sleeps at most once, and the masks are of processes. Each sleeper of the set is judged
@@ -81,8 +81,10 @@ pub fn waiting(
     let mut zero = [0u8; SEMAPHORES];
     let mut judged: u8 = 0;
     for n in 0..PROCESSES {
-        let process = (n as u8) + 1;
-        if sleeps_at(host, process, wanted) {
+        let process = Process {
+            number: (n as u8) + 1,
+        };
+        if sleeps_at(host, process.number, wanted) {
             if let Some(stop) = judge_one(host, process, values, &mut judged) {
                 wait_at(&mut increase, &mut zero, stop, bit_of(process));
             }

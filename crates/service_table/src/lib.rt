@@ -14,9 +14,11 @@ ghost use Rattle.model.specs.Values.{values_in};
 ghost use Rattle.model.specs.Events.{clear_number, assigned, assigned_all, undo_all};
 ghost use Rattle.host.specs.Parts.{values, row_in};
 ghost use Rattle.host.specs.Holding.{host_in, table_in};
-ghost use Rattle.service_table.specs.Numbered.{IsSlot, IsProcess, IsNumber, AreValues};
+ghost use Rattle.service_table.specs.Numbered.{IsSlot, IsNumber, AreValues};
 ghost use Rattle.judging.specs.Value.{values_held};
 ghost use Rattle.service_table.specs.Written.{tabled, with_copies, with_values_from, exited_at, all_zero};
+
+mod process;
 
 use host::{
     HOST_BYTES, adjustments_of, put_adjustment, put_adjustments, put_lasts, put_value, put_values,
@@ -24,6 +26,7 @@ use host::{
 };
 use judging::{cut, value_in};
 use model::{ALL_ADJUSTMENTS, ALL_SEMAPHORES, Copies, PROCESSES, SEMAPHORES, VALUE_BYTES};
+pub use process::Process;
 
 // The numbers at which two rows of values differ, as a mask.
 pub fn differing_mask(before: [u16; SEMAPHORES], after: [u16; SEMAPHORES]) -> u8
@@ -156,22 +159,21 @@ fn cut_all(values: [u16; SEMAPHORES], undo: [i16; SEMAPHORES]) -> [u16; SEMAPHOR
 pub fn undo_slot(
     host: &mut [u8; HOST_BYTES],
     adjustments: &mut [i16; ALL_ADJUSTMENTS],
-    process: u8,
+    process: Process,
     slot: usize,
 ) -> u8
     requires slot { IsSlot slot }
-    requires process { IsProcess process }
     requires are_values { AreValues (row_in host.old values) }
-    ensures adjustments_after { host_in host.new adjustments.new ≡ tabled (host_in host.old adjustments.old) (exited_at (table_in (host_in host.old adjustments.old)) process slot) }
-    ensures value { result ≡ differing 0 0 (values_of (table_in (host_in host.old adjustments.old)) slot) (values_of (exited_at (table_in (host_in host.old adjustments.old)) process slot) slot) }
+    ensures adjustments_after { host_in host.new adjustments.new ≡ tabled (host_in host.old adjustments.old) (exited_at (table_in (host_in host.old adjustments.old)) process.number slot) }
+    ensures value { result ≡ differing 0 0 (values_of (table_in (host_in host.old adjustments.old)) slot) (values_of (exited_at (table_in (host_in host.old adjustments.old)) process.number slot) slot) }
 {
-    let undo = adjustments_of(&*adjustments, process, slot);
+    let undo = adjustments_of(&*adjustments, process.number, slot);
     if all_zero(undo) {
         return 0;
     }
     let before = values_of(&*host, slot);
     let after = cut_all(before, undo);
     put_values(host, slot, after);
-    put_adjustments(adjustments, process, slot, [0i16; SEMAPHORES]);
+    put_adjustments(adjustments, process.number, slot, [0i16; SEMAPHORES]);
     differing_mask(before, after)
 }

@@ -15,7 +15,7 @@ ghost use Rattle.model.specs.Marks.{bit_of, mark_touched};
 ghost use Rattle.host.specs.Parts.{row_in};
 ghost use Rattle.host.specs.Holding.{host_in, queue_in, table_in};
 ghost use Rattle.host.specs.Queue.{QueueHeld};
-ghost use Rattle.service_table.specs.Numbered.{IsSlot, IsProcess};
+ghost use Rattle.service_table.specs.Numbered.{IsSlot};
 ghost use Rattle.service_table.specs.Written.{tabled};
 ghost use Rattle.service_waking.specs.Lent.{lent_in, world_in, lent_with, left_in, Ready, JudgedAs, Settleable, Finishable, plainly, quickly, treated, treated_from, looks_max};
 
@@ -26,7 +26,7 @@ use host::{
 use judging::{Verdict, decided, finishes, judge};
 use model::{ALL_ADJUSTMENTS, Copies, Engine, Outcome, PROCESSES, SEMAPHORES, SETS, WAKING_BYTES};
 use service_queue::take_out;
-use service_table::{apply, differing_mask};
+use service_table::{Process, apply, differing_mask};
 use wakings::note;
 
 // The looks and the wakings so far.
@@ -37,11 +37,10 @@ pub struct Tally {
 }
 
 // The bit of a process in a mask.
-pub fn bit_of(process: u8) -> u8
-    requires { IsProcess process }
-    ensures { result ≡ bit_of process }
+pub fn bit_of(process: Process) -> u8
+    ensures { result ≡ bit_of process.number }
 {
-    1u8 << (process - 1)
+    1u8 << (process.number - 1)
 }
 
 // The code that a finished sleeper is told: 0, 11 or 34. It is a number, as the list of wakings has it for C.
@@ -220,7 +219,7 @@ fn wake_quick(
                 break;
             }
             let process = process_at(&*host, i);
-            let bit = bit_of(process);
+            let bit = bit_of(Process { number: process });
             let on = marks & bit;
             if on != 0 {
                 if slot_at(&*host, process) == slot {

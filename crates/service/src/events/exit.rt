@@ -5,7 +5,6 @@ ghost use Rattle.model.specs.Events.{do_exit, exited, touched_from};
 ghost use Rattle.model.specs.Limits.{slots};
 ghost use Rattle.model.specs.Invariant.{Good};
 ghost use Rattle.host.specs.Holding.{Held, host_in, state_in, table_in};
-ghost use Rattle.service_table.specs.Numbered.{IsProcess};
 ghost use Rattle.service_table.specs.Written.{tabled};
 ghost use Rattle.service.specs.After.{after_in, after_of};
 
@@ -14,7 +13,7 @@ use host::HOST_BYTES;
 use model::{ALL_ADJUSTMENTS, Engine, SETS, Told, WAKING_BYTES};
 use service_checks::check_process;
 use service_queue::leave;
-use service_table::undo_slot;
+use service_table::{Process, undo_slot};
 use service_waking::wake_all;
 use wakings::clear;
 
@@ -22,12 +21,11 @@ use wakings::clear;
 fn undo_all(
     host: &mut [u8; HOST_BYTES],
     adjustments: &mut [i16; ALL_ADJUSTMENTS],
-    process: u8,
+    process: Process,
 ) -> [u8; SETS]
-    requires process { IsProcess process }
-    requires good { Good (table_in (host_in host.old adjustments.old)) }
-    ensures adjustments_after { host_in host.new adjustments.new ≡ tabled (host_in host.old adjustments.old) (exited (table_in (host_in host.old adjustments.old)) process) }
-    ensures value { result ≡ touched_from slots 0 (table_in (host_in host.old adjustments.old)) (exited (table_in (host_in host.old adjustments.old)) process) }
+    requires { Good (table_in (host_in host.old adjustments.old)) }
+    ensures adjustments_after { host_in host.new adjustments.new ≡ tabled (host_in host.old adjustments.old) (exited (table_in (host_in host.old adjustments.old)) process.number) }
+    ensures value { result ≡ touched_from slots 0 (table_in (host_in host.old adjustments.old)) (exited (table_in (host_in host.old adjustments.old)) process.number) }
 {
     let mut touched = [0u8; SETS];
     for (slot, mask) in touched.iter_mut().enumerate() {
@@ -52,6 +50,6 @@ pub fn exit(
         return refused(refusal);
     }
     leave(&mut *host, process);
-    let touched = undo_all(&mut *host, &mut *adjustments, process);
+    let touched = undo_all(&mut *host, &mut *adjustments, Process { number: process });
     told(wake_all(host, adjustments, wakings, engine, touched))
 }

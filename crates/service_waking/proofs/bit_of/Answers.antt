@@ -4,4 +4,4 @@ use Rattle.service_waking.proofs.ByProcess.{shifted}
 use Rattle.service_waking.proofs.bit_of.Goals as goal
 
 pub returns : goal.returns
-returns c = shifted (c.args.process - 1) (omega (arith, c.requires.most))
+returns c = shifted (c.args.process.number - 1) (omega (arith, c.args.process.there_is.most))

@@ -72,12 +72,12 @@ next c =
 pub rounds-init : goal.rounds-init
 rounds-init c = (begun _ _ c.requires.ready, refl)
 
-pub bit_of-bit-requires : goal.bit_of-bit-requires
-bit_of-bit-requires c =
+pub invariant_of-bit_of : goal.invariant_of-bit_of
+invariant_of-bit_of c =
     let o = c.rounds in
     let l = c.loop-i in
     let p : c.process_at-process.result ≡ get_or (row_in o.host order) l.i 0 = rw l.invariant.0 at c.process_at-process.ensures in
-    rw p (is_process (lent_in o.host o.adjustments o.wakings o.tally.woken) o.invariant.0.ready l.i (rw c.asleep_of-n.ensures at c.loop-i-test.true))
+    rw p (record { there_is = is_process (lent_in o.host o.adjustments o.wakings o.tally.woken) o.invariant.0.ready l.i (rw c.asleep_of-n.ensures at c.loop-i-test.true) })
 
 pub look-looked-requires : goal.look-looked-requires
 look-looked-requires c =

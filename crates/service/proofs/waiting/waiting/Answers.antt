@@ -1,4 +1,4 @@
-use Rattle.std.proofs.Common.{refl, sym, ◌∙◌, arith}
+use Rattle.std.proofs.Common.{refl, sym, ◌∙◌}
 use Rattle.std.proofs.lemmas.Bool.{false≢true}
 use Rattle.host.specs.Holding.{host_in}
 use Rattle.service.proofs.WaitingLaws.{walked_none, walked_by, walked_more, walked_not, walked_all, within_again, stops_somewhere}
@@ -10,10 +10,8 @@ loop-n-init c = walked_none (host_in c.args.host.now c.args.adjustments.now) c.r
 
 pub judge_one-requires : goal.judge_one-requires
 judge_one-requires c =
-    record {
-      process = record { least = omega arith; most = omega (arith, c.loop-n-test.true) };
-      process_value = walked_not (host_in c.args.host.now c.args.adjustments.now) c.requires.held c.args.slot c.loop-n.invariant;
-    }
+    let x = host_in c.args.host.now c.args.adjustments.now in
+    walked_not x c.requires.held c.args.slot c.loop-n.invariant
 
 pub loop-n-preserved : goal.loop-n-preserved
 loop-n-preserved c =

@@ -17,13 +17,13 @@ returns-in-Err c = refused_after (host_in c.args.host.now c.args.adjustments.now
 pub leave-requires : goal.leave-requires
 leave-requires c = held_seated (host_in c.args.host.now c.args.adjustments.now) c.requires
 
+pub invariant_of-undo_all : goal.invariant_of-undo_all
+invariant_of-undo_all c = record { there_is = exit_process _ (sym c.in_default.ensures) }
+
 pub undo_all-touched-requires : goal.undo_all-touched-requires
 undo_all-touched-requires c =
-    record {
-      process = exit_process _ (sym c.in_default.ensures);
-      good = subst (λ (r : Row). Good (table_in (record { row = r; adjustments = c.args.adjustments.now }))) (sym c.leave.ensures.host_after)
-          (held_invariant (host_in c.args.host.now c.args.adjustments.now) c.requires).good;
-    }
+    subst (λ (r : Row). Good (table_in (record { row = r; adjustments = c.args.adjustments.now }))) (sym c.leave.ensures.host_after)
+    (held_invariant (host_in c.args.host.now c.args.adjustments.now) c.requires).good
 
 pub wake_all-requires : goal.wake_all-requires
 wake_all-requires c =
