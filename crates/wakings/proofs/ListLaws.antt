@@ -1,19 +1,21 @@
 -- The places of a list: reading and writing one, and a list in which wakings are noted one behind the other.
 use Prim.Native.Nat.{ℕ, zero, suc, ◌+◌, ◌*◌, ◌-◌, ◌/◌, ◌%◌, ◌≤◌, ◌<◌}
 use mathlib.Core.Path.{◌≡◌, refl, sym, ap, ap₂, ◌∙◌}
-use mathlib.Core.Logic.{◌≢◌}
 use mathlib.Core.Bool.{Bool, true, false}
 use mathlib.Core.List.{List, [], ◌∷◌, ◌++◌, map, map-append}
 use native.Mathlib.Nat.{not-suc-le-zero, le_of_suc-le-suc, add-zero}
 use native.Mathlib.Omega.{arith}
-use lib.Dec.{eqb}
-use lib.ListN.{length, get_or, set, take, replicate, length-append, length-set, get_or-eq_default}
+use lib.Dec.{eqb, ltb}
+use lib.ListN.{length, get_or, set, take, drop, replicate, length-append, length-set, get_or-eq_default}
 use lib.Seq.{get_or-set_same, get_or-set_other, set_out, set-append_seam, append_snoc, take-append_seam, ext_get_or}
 use lib.IntN.{ℤ, pos, nat_abs}
-use borrow.Author.Tests.{eqb-true, eqb-false}
+use Rattle.std.specs.Simd.{first_chunks}
+use Rattle.std.proofs.lemmas.List.{drop-drop}
+use Rattle.std.proofs.lemmas.Simd.{get_or-chunk}
+use borrow.Author.Tests.{eqb-true, eqb-false, ltb-true, ltb-false}
 use Rattle.model.specs.declared.Waking.{Waking}
 use Rattle.model.specs.Limits.{processes}
-use Rattle.wakings.specs.Wakings.{Place, place_at, places_from, places_in, place_of, decided_byte, position_byte, position_in, waking_in, no_waking, list_of, wakings_in}
+use Rattle.wakings.specs.Wakings.{Place, place_at, places_from, places_in, place_of, decided_byte, position_byte, waking_in, no_waking, list_of, wakings_in}
 use mir.Val.{bool_byte}
 use Rattle.std.specs.Prelude.{is_some, unwrap_or, Some, None}
 use Rattle.model.specs.Judge.{Position}
@@ -44,13 +46,42 @@ at_place l k h = at_from processes 0 l k h ∙ ap (place_at l) (omega arith)
 pub at_none : (l : List ℕ) (k : ℕ) → processes ≤ k → get_or (places_in l) k no_waking ≡ no_waking
 at_none l k h = get_or-eq_default (places_in l) no_waking (omega (arith, length_in l))
 
--- a place that has an operation, and one that has none
-pub there_is : (n k : ℕ) → n ≢ 0 → position_in n k ≡ Some k
-there_is zero k h = absurd (h refl)
-there_is (suc n) k h = refl
+same_place : {p p' d d' n n' : ℕ} {c c' : ℤ} → p ≡ p' → c ≡ c' → d ≡ d' → n ≡ n'
+    → ◌≡◌ {A = Place} (record { process = p; code = c; decided = d; position = n }) (record { process = p'; code = c'; decided = d'; position = n' })
+same_place a b c d = cc
 
-pub there_is_none : (n k : ℕ) → n ≡ 0 → position_in n k ≡ None
-there_is_none n k e = rw e
+-- the pieces of four bytes that the list is cut into
+piece_is : (n k : ℕ) (l d : List ℕ) → k < n → get_or (first_chunks 4 n l) k d ≡ take 4 (drop (k * 4) l)
+piece_is zero k l d h = absurd (not-suc-le-zero h)
+piece_is (suc n) zero l d h = refl
+piece_is (suc n) (suc k) l d h =
+    let e : 4 + k * 4 ≡ suc k * 4 = omega arith in
+    piece_is n k (drop 4 l) d (le_of_suc-le-suc h) ∙ ap (take 4) (drop-drop (k * 4) 4 l ∙ rw e)
+
+-- .. zeros beyond the last
+pub piece_at : (l : List ℕ) (pieces : List (List ℕ)) (k : ℕ) → length l ≡ 4 * processes → pieces ≡ first_chunks 4 (length l / 4) l
+    → place_at (get_or pieces k (replicate 4 0)) 0 ≡ get_or (places_in l) k no_waking
+piece_at l pieces k hl cut = by (ltb k processes) refl
+  where
+    zeros : List ℕ
+    zeros = replicate 4 0
+
+    cut_in : pieces ≡ first_chunks 4 processes l
+    cut_in = let n : length l / 4 ≡ processes = omega (arith, hl) in cut ∙ rw n
+
+    byte : (j i : ℕ) → k < processes → j < 4 → k * 4 + j ≡ i → get_or (get_or pieces k zeros) j 0 ≡ get_or l i 0
+    byte j i h lt e = rw (cut_in, piece_is processes k l zeros h, sym e) (get_or-chunk (k * 4) 4 l j 0 lt)
+
+    by : (t : Bool) → ltb k processes ≡ t → place_at (get_or pieces k zeros) 0 ≡ get_or (places_in l) k no_waking
+    by true z =
+        let h = ltb-true k processes z in
+        same_place (byte 0 (4 * k) h (omega arith) (omega arith)) (ap pos (byte 1 (4 * k + 1) h (omega arith) (omega arith)))
+        (byte 2 (4 * k + 2) h (omega arith) (omega arith)) (byte 3 (4 * k + 3) h (omega arith) (omega arith))
+        ∙ sym (at_place l k h)
+    by false z =
+        let h = ltb-false k processes z in
+        let n : length pieces ≡ processes = ap length cut_in in
+        ap (λ (x : List ℕ). place_at x 0) (get_or-eq_default pieces zeros (omega (arith, n))) ∙ sym (at_none l k h)
 
 -- two lists with the same at every place are the same bytes
 pub same_bytes : (l m : List ℕ) → length l ≡ 4 * processes → length m ≡ 4 * processes → places_in l ≡ places_in m → l ≡ m
@@ -84,10 +115,6 @@ same_bytes l m hl hm e = ext_get_or 0 l m (hl ∙ sym hm) each
 pub none_in : places_in (replicate (4 * processes) 0) ≡ list_of []
 unfolding places_from places_in list_of
 none_in = refl
-
-same_place : {p p' d d' n n' : ℕ} {c c' : ℤ} → p ≡ p' → c ≡ c' → d ≡ d' → n ≡ n'
-    → ◌≡◌ {A = Place} (record { process = p; code = c; decided = d; position = n }) (record { process = p'; code = c'; decided = d'; position = n' })
-same_place a b c d = cc
 
 module _ (l : List ℕ) (k p c d n : ℕ) where
   -- the bytes of a waking stored at a place, one after another

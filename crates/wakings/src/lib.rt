@@ -3,13 +3,13 @@
 //
 // Each function asks nothing of its caller and promises one equation of specs/Wakings.antt. An event clears its list,
 // notes whom it wakes, one place behind the other, and tells how many they are; proofs/ListLaws.antt has that the list
-// then is that of its wakings. It is bytes and no array of structs, and a code is a byte: C has the list so, as
-// `struct vairolent_waking`. The three readers differ in which byte they read, and one of them all would be no shorter.
+// then is that of its wakings. It is bytes, and a code is a byte, for the C interface: there the list is an array of
+// `struct vairolent_waking`, four bytes each, and the functions of the archive take those 32 bytes as they lie.
 #![tactic(auto)]
 
 ghost use Rattle.std.specs.Prelude.{◌≡◌, [], get_or, set, pos};
 ghost use Rattle.model.specs.Waking.{waking};
-ghost use Rattle.wakings.specs.Wakings.{places_in, place_of, waking_in, no_waking, list_of};
+ghost use Rattle.wakings.specs.Wakings.{places_in, place_at, place_of, waking_in, no_waking, list_of};
 
 use model::{ONE_WAKING, PROCESSES, Position, WAKING_BYTES};
 
@@ -34,34 +34,32 @@ pub fn note(list: &mut [u8; WAKING_BYTES], count: usize, process: u8, code: u8, 
     }
 }
 
+// The four bytes of a place; zeros beyond the last, as an empty place has them.
+fn place_at(list: &[u8; WAKING_BYTES], at: usize) -> [u8; ONE_WAKING]
+    ensures { place_at result 0 ≡ get_or (places_in list.now) at no_waking }
+{
+    let (places, _) = list.as_chunks::<ONE_WAKING>();
+    places.get(at).copied().unwrap_or([0; ONE_WAKING])
+}
+
 // The process at a place, 0 beyond the last.
 pub fn process_of(list: &[u8; WAKING_BYTES], at: usize) -> u8
     ensures { result ≡ (waking_in (get_or (places_in list.now) at no_waking)).process }
 {
-    if at < PROCESSES {
-        return list[ONE_WAKING * at];
-    }
-    0
+    place_at(list, at)[0]
 }
 
 // The code at a place, 0 beyond the last.
 pub fn code_of(list: &[u8; WAKING_BYTES], at: usize) -> u8
     ensures { pos result ≡ (waking_in (get_or (places_in list.now) at no_waking)).code }
 {
-    if at < PROCESSES {
-        return list[ONE_WAKING * at + 1];
-    }
-    0
+    place_at(list, at)[1]
 }
 
 // The operation that decided, of the waking at a place; none beyond the last.
 pub fn position_of(list: &[u8; WAKING_BYTES], at: usize) -> Position
     ensures { result ≡ (waking_in (get_or (places_in list.now) at no_waking)).position }
 {
-    if at < PROCESSES {
-        if list[ONE_WAKING * at + 2] != 0 {
-            return Some(list[ONE_WAKING * at + 3]);
-        }
-    }
-    None
+    let [_, _, decided, position] = place_at(list, at);
+    if decided != 0 { Some(position) } else { None }
 }
