@@ -2,16 +2,17 @@
 //
 // A line goes to a position of the buffer, and the position behind it is the answer. Where less than LINE_BYTES are left, a
 // line function changes nothing and answers the position it was given; proofs/Lengths.antt has that no line is longer. The public
-// functions take buffer and position apart, as their callers hold them. Four begin and end alike: one function of them all would
-// take the line as a closure, with its contract written at each call, which is no plainer.
+// functions take buffer and position apart, as their callers hold them. Four begin and end alike: for a function from buffer and
+// position to a Writer or None, the proof that at None the buffer is as before (RestsIfNone) did not close; a closure for what
+// stands between would have its contract written at each call, which is no plainer.
 #![tactic(auto)]
 
 mod writer;
 
-ghost use Rattle.std.specs.Prelude.{◌≡◌, [], ◌∷◌, ◌+◌, ◌*◌, ◌≤◌, leb, length, take, pos};
+ghost use Rattle.std.specs.Prelude.{◌≡◌, ◌+◌, ◌*◌, ◌≤◌, leb, length, take, pos};
 ghost use Rattle.model.specs.Limits.{semaphores, processes};
 ghost use Rattle.wakings.specs.Wakings.{places_in, wakings_in};
-ghost use Rattle.lines.specs.Text.{newline, word_line, head_line, bad_line, position_text, waking_text, wakings_text, opening_text, event_text, query_text, numbers_text, read_text};
+ghost use Rattle.lines.specs.Text.{word_line, head_line, bad_line, position_text, waking_text, wakings_text, opening_text, event_text, query_text, numbers_text, read_text};
 ghost use Rattle.lines.specs.Buffer.{Wrote, put_line, line_bytes, position_bytes, waking_bytes, opening_bytes, number_bytes};
 
 use crate::writer::Writer;
@@ -104,7 +105,8 @@ fn woke(line: &mut Writer<'_>, process: u8, code: u8, position: Position)
     decided(line, position);
 }
 
-// Writes the first `count` wakings of a list, and no more than there are.
+// Writes the first `count` wakings of a list, and no more than there are. It counts, since the readers of crates/wakings, which
+// promise each field of a waking, take the number of its place.
 fn all_woken(line: &mut Writer<'_>, count: usize, list: &[u8; WAKING_BYTES])
     requires { line.old.at + processes * waking_bytes ≤ length line.old.out.now }
     ensures { Wrote (processes * waking_bytes) line.old (wakings_text (wakings_in count (places_in list.now))) line.new }
