@@ -43,6 +43,7 @@ impl Number for u8 {
     ghost zero = { λ x e. e };
 }
 
+// u16, u32 and u64 alike, each written out: rt ci refuses an impl that a macro of the repository writes.
 impl Number for u16 {
     const WIDTH: usize = 2;
 

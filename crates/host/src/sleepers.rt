@@ -43,7 +43,8 @@ pub fn entry_of(process: u8) -> usize
     process.wrapping_sub(1) as usize
 }
 
-// The slot that a process sleeps at, as the byte that it is in the row, and as an index.
+// The slot that a process sleeps at, as the byte that it is in the row, and as an index. Two, since both are public, and each
+// has its callers.
 pub fn slot_byte(host: &[u8; HOST_BYTES], process: u8) -> u8
     ensures { result ≡ slice_index (row_in host.now sleeps_at) (entry process) }
 {

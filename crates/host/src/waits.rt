@@ -9,7 +9,7 @@ use crate::parts::{HOST_BYTES, STARTS, WAITS};
 use crate::sleepers::entry_of;
 use model::Wait;
 
-// A wait as the number that the row has of it.
+// A wait as the number that the row has of it. No From, since Option and u64 are both std's.
 pub fn wait_number(wait: Wait) -> u64
     ensures { result ≡ wait_number wait }
 {
@@ -46,13 +46,11 @@ pub fn put_wait(host: &mut [u8; HOST_BYTES], process: u8, start: u64, wait: u64)
 pub fn is_due(host: &[u8; HOST_BYTES], process: u8, time: u64) -> bool
     ensures { result ≡ over_by time (start_in (row_in host.now) process) (wait_of (wait_in (row_in host.now) process)) }
 {
-    let wait = wait_at(host, process);
-    let start = start_at(host, process);
-    if wait == 0 {
+    let Some(wait) = wait_at(host, process).checked_sub(1) else {
         return false;
-    }
-    if time < start {
+    };
+    let Some(since) = time.checked_sub(start_at(host, process)) else {
         return false;
-    }
-    wait - 1 <= time - start
+    };
+    wait <= since
 }

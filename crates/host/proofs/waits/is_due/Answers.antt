@@ -1,24 +1,22 @@
-use Rattle.std.proofs.Common.{sym}
+use Rattle.std.proofs.Common.{sym, ap, leb, ◌-◌, ◌∙◌}
 use Rattle.host.proofs.WaitLaws.{never_over, not_begun, over_difference}
 use Rattle.host.proofs.waits.is_due.Goals as goal
 
-pub returns-then-wait-eq0 : goal.returns-then-wait-eq0
-returns-then-wait-eq0 c =
-    let a = c.args in
-    let w = c.wait_at-wait in
-    let s = c.start_at-start in
-    rw (← w.ensures, ← s.ensures) (sym (never_over a.time s.result w.result c.if-wait-eq0.true))
+pub returns-in_default : goal.returns-in_default
+returns-in_default c =
+    let w = c.wait_at in
+    rw (← w.ensures) (sym (never_over c.args.time _ w.result c.in_default.ensures))
 
-pub returns-then-time-start : goal.returns-then-time-start
-returns-then-time-start c =
-    let a = c.args in
-    let w = c.wait_at-wait in
-    let s = c.start_at-start in
-    rw (← w.ensures, ← s.ensures) (sym (not_begun a.time s.result w.result c.if-wait-eq0.false c.if-time-start.true))
+pub returns-in_default-checked_sub : goal.returns-in_default-checked_sub
+returns-in_default-checked_sub c =
+    let w = c.wait_at in
+    let s = c.start_at in
+    rw (← w.ensures, ← s.ensures) (sym (not_begun c.args.time s.result w.result c.in-Some.ensures.0 c.in_default-checked_sub.ensures))
 
 pub returns : goal.returns
 returns c =
-    let a = c.args in
-    let w = c.wait_at-wait in
-    let s = c.start_at-start in
-    rw (← w.ensures, ← s.ensures) (sym (over_difference a.time s.result w.result c.if-wait-eq0.false c.if-time-start.false))
+    let w = c.wait_at in
+    let s = c.start_at in
+    let some = c.in-Some.ensures in
+    let begun = c.in-Some-checked_sub.ensures in
+    rw (some.1, ← w.ensures, ← s.ensures) (ap (leb (w.result - 1)) begun.1 ∙ sym (over_difference c.args.time s.result w.result some.0 begun.0))
