@@ -1,5 +1,5 @@
 // What signed 32-bit numbers stand for: an identifier for a set, and a value for the sixteen bits of a semaphore.
-ghost use Rattle.std.specs.Prelude.{◌≡◌, pos};
+ghost use Rattle.std.specs.Prelude.{◌≡◌};
 ghost use Rattle.model.specs.Checks.{slot_of, in_range};
 ghost use Rattle.judging.specs.Value.{value_of};
 

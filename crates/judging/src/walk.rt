@@ -5,7 +5,7 @@
 ghost use Rattle.std.specs.Prelude.{◌≡◌, ℕ, ◌≤◌, length};
 ghost use Rattle.model.specs.Operation.{operations_of};
 ghost use Rattle.model.specs.Judge.{judged, step};
-ghost use Rattle.judging.specs.Walk.{copies, stopped as stopped_by, walk_from};
+ghost use Rattle.judging.specs.Walk.{stopped as stopped_by, walk_from};
 
 use crate::amount::{is_negative, next_adjustment, next_value};
 use crate::operation::{IPC_NOWAIT, SEM_UNDO, has, operation_of};

@@ -9,20 +9,20 @@ ghost use Rattle.model.specs.Operation.{operations_of};
 ghost use Rattle.model.specs.Marks.{named_by};
 ghost use Rattle.model.specs.Waking.{without};
 ghost use Rattle.model.specs.Checks.{asleep};
-ghost use Rattle.model.specs.Events.{keep, ended_with, not_of};
+ghost use Rattle.model.specs.Events.{keep, not_of};
 ghost use Rattle.model.specs.Runs.{All};
 ghost use Rattle.host.specs.Parts.{order, row_in, with};
-ghost use Rattle.host.specs.Holding.{time_in, with_queue, sleeper_in, queue_in};
+ghost use Rattle.host.specs.Holding.{time_in, with_queue, queue_in};
 ghost use Rattle.host.specs.Queue.{Room, QueueHeld};
 ghost use Rattle.wakings.specs.Wakings.{places_in, list_of};
 ghost use Rattle.service_queue.specs.Seated.{Seated, IsPositionOf, moved_up};
 ghost use Rattle.service_queue.specs.Ended.{Tells, EndedAll};
 
 use host::{
-    HOST_BYTES, asleep_of, clear_array, is_due, process_at, put_asleep, put_call, put_process,
-    put_wait, size_at, slot_at, store_array, time_of, wait_number,
+    HOST_BYTES, asleep_of, clear_array, process_at, put_asleep, put_call, put_process, put_wait,
+    size_at, store_array, time_of, wait_number,
 };
-use model::{Position, WAKING_BYTES, Wait};
+use model::{WAKING_BYTES, Wait};
 use wakings::note;
 
 // A call joins behind the others at the time last told, with its wait and the mask of the semaphores that its array names.
