@@ -55,12 +55,10 @@ pub fn next_adjustment(adjustment: i16, amount: i16) -> Option<i16>
     ensures { result ≡ next_adjustment adjustment amount }
 {
     let new = (adjustment as i32) - (amount as i32);
-    if new < LEAST {
-        None
-    } else if MOST < new {
-        None
-    } else {
+    if LEAST <= new && new <= MOST {
         Some(new as i16)
+    } else {
+        None
     }
 }
 

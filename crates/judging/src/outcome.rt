@@ -7,10 +7,7 @@ use model::{Outcome, Position};
 pub fn finishes(outcome: Outcome) -> bool
     ensures { result ≡ finishes_with outcome }
 {
-    match outcome {
-        Outcome::Sleep => false,
-        _ => true,
-    }
+    outcome != Outcome::Sleep
 }
 
 // The operation that decided, from the position where judging ended; its position is taken within 256.

@@ -117,7 +117,7 @@ pub enum Halt {
 }
 
 // What judging an array comes to.
-#[derive(Clone, Copy)]
+#[derive(Clone, Copy, PartialEq, Eq)]
 pub enum Outcome {
     Done,
     Sleep,

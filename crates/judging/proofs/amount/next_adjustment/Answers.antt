@@ -1,23 +1,28 @@
+use mathlib.Core.Bool.{true, false}
+use lib.IntN.{pos, negsuc, ◌-ℤ◌}
 use mir.Facts.{to_z-of_z}
 use Rattle.model.specs.Judge.{next_adjustment}
-use Rattle.judging.proofs.Signed.{difference_is, between}
+use Rattle.judging.proofs.Signed.{difference_is, between, at_most}
 use Rattle.judging.proofs.amount.next_adjustment.Goals as goal
+use Rattle.judging.proofs.amount.next_adjustment.Goals.{else-new-ge-LEAST-via-then-new-ge-LEAST+else-new-le-MOST, else-new-ge-LEAST-via-else-new-ge-LEAST}
 
--- The definition makes the code's tests, on the difference as a number.
-pub returns-then-new-lt-LEAST : goal.returns-then-new-lt-LEAST
+-- The code's two tests of at most are the definition's two of less, on the difference as a number.
+pub returns-then-new-le-MOST : goal.returns-then-new-le-MOST
 unfolding next_adjustment
-returns-then-new-lt-LEAST c = rw (rw (difference_is c.ranges.adjustment c.ranges.amount) at c.if-new-lt-LEAST.true)
-
-pub returns-then-new-gt-MOST : goal.returns-then-new-gt-MOST
-unfolding next_adjustment
-returns-then-new-gt-MOST c =
+returns-then-new-le-MOST c =
     let e = difference_is c.ranges.adjustment c.ranges.amount in
-    rw (rw e at c.if-new-lt-LEAST.false, rw e at c.if-new-gt-MOST.true)
+    let new = c.args.adjustment -ℤ c.args.amount in
+    let b = at_most (negsuc 32766) new true (rw e at c.if-new-ge-LEAST.true) in
+    let t = at_most new (pos 32767) true (rw e at c.if-new-le-MOST.true) in
+    rw (e, to_z-of_z (between new b t), b, t)
 
-pub returns-else-new-gt-MOST : goal.returns-else-new-gt-MOST
+pub returns-else-new-ge-LEAST : goal.returns-else-new-ge-LEAST
 unfolding next_adjustment
-returns-else-new-gt-MOST c =
+returns-else-new-ge-LEAST c =
     let e = difference_is c.ranges.adjustment c.ranges.amount in
-    let b = rw e at c.if-new-lt-LEAST.false in
-    let t = rw e at c.if-new-gt-MOST.false in
-    rw (e, to_z-of_z (between _ b t), b, t)
+    let new = c.args.adjustment -ℤ c.args.amount in
+    elim c.else-new-ge-LEAST.branch [
+      | else-new-ge-LEAST-via-then-new-ge-LEAST+else-new-le-MOST w ↦
+          rw (at_most (negsuc 32766) new true (rw e at w.if-new-ge-LEAST.true), at_most new (pos 32767) false (rw e at w.if-new-le-MOST.false))
+      | else-new-ge-LEAST-via-else-new-ge-LEAST w ↦ rw (at_most (negsuc 32766) new false (rw e at w.if-new-ge-LEAST.false))
+    ]

@@ -1,22 +1,19 @@
-use mathlib.Core.Path.{◌≡◌, refl}
-use mathlib.Core.Bool.{true}
+use denote.Enum.Bare.{sameb}
+use mathlib.Core.Path.{◌≡◌, refl, ◌∙◌}
+use mathlib.Core.Bool.{not}
+use Rattle.model.specs.contracts.Outcome.{the_type}
 use Rattle.model.specs.declared.Outcome.{Outcome}
 use Rattle.model.specs.declared.Outcome.TheVariants.{Done, Sleep, Again, Range}
 use Rattle.model.specs.Judge.{finishes}
 use Rattle.judging.proofs.outcome.finishes.Goals as goal
 
 -- By the four outcomes.
--- any but `Sleep`
-other : (x : Outcome) → (x ≡ Sleep → ⊥) → true ≡ finishes x
+by_outcome : (x : Outcome) → not (sameb the_type x Sleep) ≡ finishes x
 unfolding finishes
-other Done h = refl
-other Sleep h = absurd (h refl)
-other Again h = refl
-other Range h = refl
+by_outcome Done = refl
+by_outcome Sleep = refl
+by_outcome Again = refl
+by_outcome Range = refl
 
-pub returns-in-Sleep : goal.returns-in-Sleep
-unfolding finishes
-returns-in-Sleep c = rw c.in-Sleep.is
-
-pub returns-in_default : goal.returns-in_default
-returns-in_default c = other c.args.outcome c.in_default.not-Sleep
+pub returns : goal.returns
+returns c = c.ne.ensures ∙ by_outcome c.args.outcome
