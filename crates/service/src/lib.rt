@@ -109,8 +109,6 @@ pub fn run(
             process,
             identifier,
         } => {
-            // As a slice once: that tells the proof how long it is.
-            let _all: &[u32] = &*numbers;
             clear(list);
             Reply::Read(read_all(&*host, &*adjustments, numbers, process, identifier))
         }

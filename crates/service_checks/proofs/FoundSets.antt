@@ -15,6 +15,7 @@ use mir.Syntax.{w32}
 use mir.Val.{SFits, to_z, of_z}
 use mir.Facts.{to_z-of_z}
 use Rattle.std.specs.Prelude.{Option, Some, None, MatchOption, Result, Ok, Err, IsErrAnd}
+use Rattle.std.specs.Int.{FitsUnsignedBits}
 use Rattle.std.specs.Option.{ok_or}
 use Rattle.model.specs.declared.Refusal.{Refusal}
 use Rattle.model.specs.declared.Refusal.TheVariants.{NoSlot}
@@ -69,16 +70,26 @@ module _ {i : ℤ} (f : SFits w32 i) where
   pub set_found : (r : Row) {slot : ℕ} {s : Set} → slot ≡ slot_of (to_z w32 (of_z w32 i)) → s ≡ set_at r slot → get_or (sets_in r) (slot_of i) no_set ≡ s
   set_found r {slot} k e = let n : slot ≡ slot_of i = rw (to_z-of_z f) at k in read r (rw n at e) (slot_within i)
 
--- an identifier that is not negative, by the set in its slot
-module _ (r : Row) {i : ℤ} (n : i ≡ pos (nat_abs i)) {s : Set} (e : s ≡ set_at r (nat_abs i % slots)) where
-  here : get_or (sets_in r) (nat_abs i % slots) no_set ≡ s
-  here = read r e (mod-lt (nat_abs i) (zero-lt-suc 3))
+-- an identifier that is no number without a sign names no set
+pub names_none : (sets : List Set) (i : ℤ) → SFits w32 i → (FitsUnsignedBits 64 i → ⊥) → false ≡ names_set sets i
+unfolding names_set
+names_none sets (pos i) h f = absurd (f (omega (arith, h.sfits)))
+names_none sets (negsuc i) h f = refl
+
+-- .. one that is, by the set in its slot
+pub natural : (i : ℤ) → FitsUnsignedBits 64 i → {n : ℕ} → n ≡ nat_abs i → i ≡ pos n
+natural (pos i) f e = sym (ap pos e)
+natural (negsuc i) f e = absurd f
+
+module _ (r : Row) {i : ℤ} {m : ℕ} (n : i ≡ pos m) {s : Set} (e : s ≡ set_at r (m % slots)) where
+  here : get_or (sets_in r) (m % slots) no_set ≡ s
+  here = read r e (mod-lt m (zero-lt-suc 3))
 
   pub names_free : s.count ≡ 0 → false ≡ names_set (sets_in r) i
   unfolding names_set
   names_free z = rw (n, here, z)
 
-  pub names_live : s.count ≢ 0 → eqb s.generation (nat_abs i / slots) ≡ names_set (sets_in r) i
+  pub names_live : s.count ≢ 0 → eqb s.generation (m / slots) ≡ names_set (sets_in r) i
   unfolding names_set
   names_live z = rw (n, here, lt-ltb 0 s.count (omega arith))
 

@@ -45,15 +45,14 @@ fn no_array(size: usize) -> bool
 fn names_set(host: &[u8; HOST_BYTES], identifier: i32) -> bool
     ensures { result ≡ names_set (sets_in (row_in host.now)) identifier }
 {
-    if identifier < 0 {
+    let Ok(identifier) = usize::try_from(identifier) else {
         return false;
-    }
-    let wide = identifier as usize;
-    let set = set_at(host, wide % SETS);
+    };
+    let set = set_at(host, identifier % SETS);
     if set.count == 0 {
         return false;
     }
-    set.generation as usize == wide / SETS
+    set.generation as usize == identifier / SETS
 }
 
 // The lowest free slot.

@@ -29,10 +29,7 @@ use wakings::clear;
 fn at_once(wait: Wait) -> bool
     ensures { result ≡ at_once wait }
 {
-    match wait {
-        None => false,
-        Some(number) => number == 0,
-    }
+    wait == Some(0)
 }
 
 // A call that would sleep: with a wait of 0 it is refused and nothing changes, else it falls asleep. The answer is its code,

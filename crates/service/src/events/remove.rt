@@ -12,7 +12,6 @@ use service_checks::check_remove;
 use service_queue::end_all;
 use service_table::clear_slot;
 use service_waking::Tally;
-use std::num::wrapping_add_u16;
 use wakings::clear;
 
 pub fn remove(
@@ -32,7 +31,7 @@ pub fn remove(
     let slot = slot_of(identifier);
     let old = set_at(&*host, slot);
     let set = Set {
-        generation: wrapping_add_u16(old.generation, 1),
+        generation: old.generation.wrapping_add(1),
         count: 0,
         owner: 0,
         group: 0,

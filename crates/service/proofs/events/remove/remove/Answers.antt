@@ -1,4 +1,4 @@
-use Rattle.std.proofs.Common.{rules, ◌≡◌, ◌+◌, ◌%◌, sym, ap, ◌∙◌, to_z-of_z}
+use Rattle.std.proofs.Common.{rules, ◌≡◌, ◌+◌, ◌%◌, sym, ap, to_z-of_z}
 use Rattle.model.specs.declared.Set.{Set}
 use Rattle.model.specs.Marks.{mine}
 use Rattle.model.specs.Checks.{slot_of, check_remove}
@@ -9,7 +9,7 @@ use Rattle.service_checks.proofs.FoundSets.{slot_within}
 use Rattle.service.proofs.EventLaws.{held_seated, refused_after}
 use Rattle.service.proofs.SlotLaws.{removed_row, removed}
 use Rattle.service.proofs.events.remove.remove.Goals as goal
-use Rattle.service.proofs.events.remove.remove.Goals.{After-slot_of-slot, After-wrapping_add_u16}
+use Rattle.service.proofs.events.remove.remove.Goals.{After-slot_of-slot, After-set_at-old}
 
 -- `service::events::remove::remove` meets its contract.
 -- no check applies
@@ -19,8 +19,8 @@ none c = sym (rw (to_z-of_z c.ranges.identifier) at (c.in_default.ensures c.args
 slot : (c : After-slot_of-slot) → c.slot_of-slot.result ≡ slot_of c.args.identifier
 slot c = rw (to_z-of_z c.ranges.identifier) at c.slot_of-slot.ensures
 
-generation : (c : After-wrapping_add_u16) → c.wrapping_add_u16.result ≡ ((set_at (row_in c.args.host.now) c.slot_of-slot.result).generation + 1) % 65536
-generation c = c.wrapping_add_u16.ensures.value ∙ ap (λ (u : Set). (u.generation + 1) % 65536) c.set_at-old.ensures
+generation : (c : After-set_at-old) → (c.set_at-old.result.generation + 1) % 65536 ≡ ((set_at (row_in c.args.host.now) c.slot_of-slot.result).generation + 1) % 65536
+generation c = ap (λ (u : Set). (u.generation + 1) % 65536) c.set_at-old.ensures
 
 pub check_remove-requires : goal.check_remove-requires
 check_remove-requires c = held_seated (host_in c.args.host.now c.args.adjustments.now) c.requires
@@ -35,12 +35,12 @@ clear_slot-requires c = rw (slot (goal.at.clear_slot-requires c).After-slot_of-s
 pub end_all-woken-requires-clause-queue_held : goal.end_all-woken-requires-clause-queue_held
 end_all-woken-requires-clause-queue_held c =
     let at = goal.at.end_all-woken-requires-clause-queue_held c in
-    removed_row (host_in c.args.host.now c.args.adjustments.now) c.requires _ _ (none at.After-slot_of-slot) (slot at.After-slot_of-slot) (generation at.After-wrapping_add_u16) c.put_set.ensures c.clear_slot.ensures
+    removed_row (host_in c.args.host.now c.args.adjustments.now) c.requires _ _ (none at.After-slot_of-slot) (slot at.After-slot_of-slot) (generation at.After-set_at-old) c.put_set.ensures c.clear_slot.ensures
 
 pub returns : goal.returns
 unfolding mine
 returns c =
     let at = goal.at.returns c in
     let gone = c.end_all-woken.ensures (mine c.slot_of-slot.result) (λ h p b e. search rules) in
-    removed (host_in c.args.host.now c.args.adjustments.now) c.requires _ _ (none at.After-slot_of-slot) (slot at.After-slot_of-slot) (generation at.After-wrapping_add_u16) c.put_set.ensures c.clear_slot.ensures
+    removed (host_in c.args.host.now c.args.adjustments.now) c.requires _ _ (none at.After-slot_of-slot) (slot at.After-slot_of-slot) (generation at.After-set_at-old) c.put_set.ensures c.clear_slot.ensures
     gone.host_after gone.wakings_after gone.value c.told.ensures
