@@ -247,7 +247,7 @@ pub struct Queried {
 }
 
 // What a whole set shows, by the number of a semaphore: of each its value, its last process, and who waits there, as a query
-// of it says; 0 from the set's count on. `judged` is the number of arrays that were judged for it.
+// of it says; 0 from the set's count on. `judged` is the number of arrays that were judged for it. Rows side by side: C has it so.
 #[repr(C)]
 #[derive(Clone, Copy)]
 pub struct QueriedSet {

@@ -17,7 +17,7 @@ use service_table::Process;
 use service_waking::bit_of;
 
 // At each semaphore of a set the processes that wait there, as masks: for an increase, and for zero; and how many arrays were
-// judged to find them.
+// judged to find them. Rows side by side: each goes whole into `QueriedSet`, which C has so.
 #[derive(Clone, Copy)]
 pub struct Waiters {
     pub increase: [u8; SEMAPHORES],
