@@ -1,11 +1,11 @@
 // The eleven events, each in its own file, and what they tell. What is lent stands apart in each: C lends it so (`vairolent_create_in`).
 ghost use Rattle.std.specs.Prelude.{◌≡◌, ◌%◌, pos};
 ghost use Rattle.model.specs.Refusal.{errno_of};
-ghost use Rattle.model.specs.Judge.{decided_at};
+ghost use Rattle.model.specs.Judge.{code_of, decided_at};
 ghost use Rattle.service.specs.After.{telling_at, telling};
 
 use judging::decided;
-use model::{Outcome, Position, Refusal, Told};
+use model::{Outcome, Refusal, Told};
 use service_waking::Tally;
 
 pub mod act_as;
@@ -20,7 +20,15 @@ pub mod set_all;
 pub mod set_value;
 pub mod signal;
 
-// What an event tells that is refused.
+// The codes of a sleeper that is ended untreated, as bytes of errno.h: interrupted, its wait over, its set removed.
+const EINTR: u8 = 4;
+
+const EAGAIN: u8 = 11;
+
+const EIDRM: u8 = 43;
+
+// What an event tells that is refused. Each event has one check and returns early once: an inner function for `?` would repeat its
+// whole signature.
 fn refused(refusal: Refusal) -> Told
     ensures { result ≡ telling (pos (errno_of refusal)) 0 0 0 }
 {
@@ -40,13 +48,25 @@ fn done(value: u32) -> Told
     }
 }
 
+// The code of an outcome: 0, -1 for a call that sleeps, EAGAIN, or ERANGE.
+fn code_of(outcome: Outcome) -> i32
+    ensures { result ≡ code_of outcome }
+{
+    match outcome {
+        Outcome::Done => 0,
+        Outcome::Sleep => -1,
+        Outcome::Again => 11,
+        Outcome::Range => 34,
+    }
+}
+
 // What an operate tells whose array is not done: its code, and the operation that decided.
-fn not_done(code: i32, outcome: Outcome, position: usize) -> Told
-    ensures { result ≡ telling_at code (decided_at outcome (position % 256)) 0 0 0 }
+fn not_done(outcome: Outcome, position: usize) -> Told
+    ensures { result ≡ telling_at (code_of outcome) (decided_at outcome (position % 256)) 0 0 0 }
 {
     Told {
         position: decided(outcome, position),
-        code,
+        code: code_of(outcome),
         ..Told::default()
     }
 }

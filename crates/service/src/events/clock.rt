@@ -4,7 +4,7 @@ ghost use Rattle.model.specs.Events.{do_clock};
 ghost use Rattle.host.specs.Holding.{Held, host_in, state_in};
 ghost use Rattle.service.specs.After.{after_in, after_of};
 
-use crate::events::{refused, told};
+use crate::events::{EAGAIN, refused, told};
 use host::{HOST_BYTES, is_due, put_time};
 use model::{ALL_ADJUSTMENTS, Told, WAKING_BYTES};
 use service_checks::check_clock;
@@ -30,7 +30,7 @@ pub fn clock(
     let woken = end_all(
         host,
         wakings,
-        11,
+        EAGAIN,
         |host, process| is_due(host, process, time),
     );
     told(Tally {

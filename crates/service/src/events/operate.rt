@@ -1,10 +1,9 @@
 // Operate: an array of operations of a process at a set.
-ghost use Rattle.std.specs.Prelude.{◌≡◌, ◌<◌, ◌≢◌, [], ◌∷◌, ◌++◌, length, pos, if◌then◌else◌};
-ghost use Rattle.model.specs.declared.Outcome.TheVariants.{Sleep};
+ghost use Rattle.std.specs.Prelude.{◌≡◌, ◌<◌, ◌≢◌, [], ◌∷◌, ◌++◌, length, if◌then◌else◌};
+ghost use Rattle.model.specs.declared.Outcome.TheVariants.{Again, Sleep};
 ghost use Rattle.model.specs.Limits.{processes};
 ghost use Rattle.model.specs.State.{Sleeper};
 ghost use Rattle.model.specs.Operation.{operations_of};
-ghost use Rattle.model.specs.Judge.{code_of};
 ghost use Rattle.model.specs.Marks.{named_by};
 ghost use Rattle.model.specs.Waking.{waker};
 ghost use Rattle.model.specs.Clock.{at_once};
@@ -32,8 +31,8 @@ fn at_once(wait: Wait) -> bool
     wait == Some(0)
 }
 
-// A call that would sleep: with a wait of 0 it is refused and nothing changes, else it falls asleep. The answer is its code,
-// the number that is told.
+// A call that would sleep: with a wait of 0 it is refused and nothing changes, else it falls asleep. The answer is what it comes
+// to.
 fn would_sleep(
     host: &mut [u8; HOST_BYTES],
     process: u8,
@@ -41,7 +40,7 @@ fn would_sleep(
     bytes: &[u8],
     names: u8,
     wait: Wait,
-) -> i32
+) -> Outcome
     requires queue_held { QueueHeld (row_in host.old) }
     requires room { Room (record { process = process; slot = slot; array = bytes.now; start = time_in (row_in host.old); wait = wait }) }
     requires all { All (λ (s : Sleeper). s.process ≢ process) (queue_in (row_in host.old)) }
@@ -49,13 +48,13 @@ fn would_sleep(
     requires slot_bound { slot < 256 }
     requires names_value { names ≡ named_by 0 (operations_of bytes.now) }
     ensures host_after { row_in host.new ≡ (if at_once wait then row_in host.old else with_queue (row_in host.old) (queue_in (row_in host.old) ++ record { process = process; slot = slot; array = bytes.now; start = time_in (row_in host.old); wait = wait } ∷ [])) }
-    ensures value { result ≡ (if at_once wait then pos 11 else code_of Sleep) }
+    ensures value { result ≡ (if at_once wait then Again else Sleep) }
 {
     if at_once(wait) {
-        return 11;
+        return Outcome::Again;
     }
     fall_asleep(host, process, slot, bytes, names, wait);
-    -1
+    Outcome::Sleep
 }
 
 // The array is judged on a copy: done, the copy becomes the state and the set is treated; else it sleeps, if it may wait, or is
@@ -101,10 +100,9 @@ pub fn operate(
             ))
         }
         Outcome::Sleep => {
-            let code = would_sleep(host, process, slot, bytes, names, wait);
-            not_done(code, outcome, verdict.position)
+            let ended = would_sleep(host, process, slot, bytes, names, wait);
+            not_done(ended, verdict.position)
         }
-        Outcome::Again => not_done(11, outcome, verdict.position),
-        Outcome::Range => not_done(34, outcome, verdict.position),
+        Outcome::Again | Outcome::Range => not_done(outcome, verdict.position),
     }
 }

@@ -4,7 +4,7 @@ ghost use Rattle.model.specs.Events.{do_remove};
 ghost use Rattle.host.specs.Holding.{Held, host_in, state_in};
 ghost use Rattle.service.specs.After.{after_in, after_of};
 
-use crate::events::{refused, told};
+use crate::events::{EIDRM, refused, told};
 use host::{HOST_BYTES, put_set, set_at, slot_at};
 use judging::slot_of;
 use model::{ALL_ADJUSTMENTS, Set, Told, WAKING_BYTES};
@@ -42,7 +42,7 @@ pub fn remove(
     let woken = end_all(
         host,
         wakings,
-        43,
+        EIDRM,
         |host, process| slot_at(host, process) == slot,
     );
     told(Tally {

@@ -4,9 +4,9 @@ ghost use Rattle.model.specs.Events.{do_signal};
 ghost use Rattle.host.specs.Holding.{Held, host_in, state_in};
 ghost use Rattle.service.specs.After.{after_in, after_of};
 
-use crate::events::{done, refused, told};
+use crate::events::{EINTR, done, refused, told};
 use host::HOST_BYTES;
-use model::{ALL_ADJUSTMENTS, Position, Told, WAKING_BYTES};
+use model::{ALL_ADJUSTMENTS, Told, WAKING_BYTES};
 use service_checks::check_process;
 use service_queue::leave;
 use service_waking::Tally;
@@ -28,6 +28,6 @@ pub fn signal(
     if !leave(host, process) {
         return done(0);
     }
-    note(wakings, 0, process, 4, None);
+    note(wakings, 0, process, EINTR, None);
     told(Tally { looks: 0, woken: 1 })
 }

@@ -19,7 +19,7 @@ use Rattle.service_table.proofs.WrittenLaws.{sized_good, copies_applied}
 use Rattle.service_waking.specs.Lent.{JudgedAs, treated}
 use Rattle.service_waking.proofs.LookLaws.{values_in_lem, undo_read, judged_as}
 use Rattle.service.proofs.EventLaws.{held_invariant, held_row, held_seated, refused_after, begun, begun_ready}
-use Rattle.service.proofs.events.operate.operate.Answers.Laws.{call_process, call_numbered, call_room, call_awake, call_few, done_lent, done_ready, done_after, again_after, range_after, would_sleep_after}
+use Rattle.service.proofs.events.operate.operate.Answers.Laws.{call_process, call_numbered, call_room, call_awake, call_few, done_lent, done_ready, done_after, stopped_after, would_sleep_after}
 use Rattle.service.proofs.events.operate.operate.Goals as goal
 use Rattle.service.proofs.events.operate.operate.Goals.{After-judge-verdict}
 
@@ -102,9 +102,9 @@ wake-requires c =
       looks_le_looks_max = omega (arith, c.default.ensures.0);
     }
 
-pub would_sleep-code-requires : goal.would_sleep-code-requires
-would_sleep-code-requires c =
-    let j = (goal.at.would_sleep-code-requires c).After-judge-verdict in
+pub would_sleep-ended-requires : goal.would_sleep-ended-requires
+would_sleep-ended-requires c =
+    let j = (goal.at.would_sleep-ended-requires c).After-judge-verdict in
     let z = passes j in
     record {
       queue_held = held_row (x j) c.requires;
@@ -126,16 +126,11 @@ returns-in-Done c =
 pub returns-in-Sleep : goal.returns-in-Sleep
 returns-in-Sleep c =
     let j = (goal.at.returns-in-Sleep c).After-judge-verdict in
-    let gone = c.would_sleep-code.ensures in
+    let gone = c.would_sleep-ended.ensures in
     would_sleep_after (x j) c.requires _ _ c.args.wait _ (passes j) c.args.engine _ _ _ (judged j) c.in-Sleep.is (rw (slot j) at gone.host_after)
-    (to_z-of_z {w = w32} (record { sfits = c.would_sleep-code.type_inv }) ∙ gone.value) c.clear.ensures c.not_done.ensures
+    gone.value c.clear.ensures c.not_done.ensures
 
 pub returns-in-Again : goal.returns-in-Again
 returns-in-Again c =
     let j = (goal.at.returns-in-Again c).After-judge-verdict in
-    again_after (x j) c.requires _ _ c.args.wait _ (passes j) c.args.engine _ _ _ (judged j) c.in-Again.is c.clear.ensures c.not_done-in-Again.ensures
-
-pub returns-in-Range : goal.returns-in-Range
-returns-in-Range c =
-    let j = (goal.at.returns-in-Range c).After-judge-verdict in
-    range_after (x j) c.requires _ _ c.args.wait _ (passes j) c.args.engine _ _ _ (judged j) c.in-Range.is c.clear.ensures c.not_done-in-Range.ensures
+    stopped_after (x j) c.requires _ _ c.args.wait _ (passes j) c.args.engine _ _ _ (judged j) c.in-Again.is c.clear.ensures c.not_done-in-Again.ensures

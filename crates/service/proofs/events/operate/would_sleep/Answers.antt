@@ -1,7 +1,5 @@
 use Rattle.std.proofs.Common.{sym, refl, ◌∙◌}
-use Rattle.model.specs.Judge.{code_of}
 use Rattle.service.proofs.events.operate.would_sleep.Goals as goal
 
 pub returns : goal.returns
-unfolding code_of
 returns c = rw (sym c.at_once.ensures ∙ c.if-at_once.false) (record { host_after = c.fall_asleep.ensures; value = refl })

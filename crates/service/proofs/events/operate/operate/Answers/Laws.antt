@@ -1,5 +1,5 @@
 -- Operate, once no check applies: as its array is judged.
-use Rattle.std.proofs.Common.{◌≡◌, ℕ, ◌%◌, ◌<◌, ◌≤◌, Bool, true, false, cond, ◌≢◌, List, [], ◌∷◌, ◌++◌, length, take, ℤ, pos, negsuc, sym, refl, ap, ◌∙◌, ap₂, arith, length-append, length-take-le, take_all, drop_at}
+use Rattle.std.proofs.Common.{◌≡◌, ℕ, ◌%◌, ◌<◌, ◌≤◌, Bool, true, false, cond, ◌≢◌, ◌⊎◌, inl, inr, List, [], ◌∷◌, ◌++◌, length, take, ℤ, pos, negsuc, sym, refl, ap, ◌∙◌, ap₂, arith, length-append, length-take-le, take_all, drop_at}
 use lib.Seq.{take-paste}
 use Rattle.model.specs.declared.Copies.{Copies}
 use Rattle.model.specs.declared.Engine.{Engine}
@@ -131,10 +131,10 @@ module _ (x : Host) (k : Held x) (p : ℕ) (i : ℤ) (wait : Wait) (bytes : List
         ap₂ (λ (l : List Place) (u : Told). record { host = x; wakings = l; told = u }) el (et ∙ ap (λ (d : Position). telling_at (pos code) d 0 0 0) named_is)
         ∙ ap (λ (y : Host). record { host = y; wakings = list_of []; told = telling_at (pos code) (decider_of (look (table_in x) (made))) 0 0 0 }) k.holds
 
-    pub again_after : {l : List Place} {told : Told} → o ≡ Again → l ≡ list_of [] → told ≡ telling_at (pos 11) (decided_at o (n % 256)) 0 0 0
+    again_after : {l : List Place} {told : Told} → o ≡ Again → l ≡ list_of [] → told ≡ telling_at (code_of o) (decided_at o (n % 256)) 0 0 0
         → record { host = x; wakings = l; told = told } ≡ after_of (do_operate (waker engine) (state_in x) p i wait bytes)
-    unfolding operated
-    again_after e el et = judged_after 11 el et ∙ does e
+    unfolding operated code_of
+    again_after e el et = judged_after 11 el (et ∙ ap (λ (y : Outcome). telling_at (code_of y) (decided_at o (n % 256)) 0 0 0) e) ∙ does e
 
     -- a wait of 0 that would sleep
     at_once_after : {l : List Place} {told : Told} → o ≡ Sleep → at_once wait ≡ true → l ≡ list_of [] → told ≡ telling_at (pos 11) (decided_at o (n % 256)) 0 0 0
@@ -142,10 +142,16 @@ module _ (x : Host) (k : Held x) (p : ℕ) (i : ℤ) (wait : Wait) (bytes : List
     unfolding would_sleep operated
     at_once_after e w el et = judged_after 11 el et ∙ (rw w at (does e))
 
-    pub range_after : {l : List Place} {told : Told} → o ≡ Range → l ≡ list_of [] → told ≡ telling_at (pos 34) (decided_at o (n % 256)) 0 0 0
+    range_after : {l : List Place} {told : Told} → o ≡ Range → l ≡ list_of [] → told ≡ telling_at (code_of o) (decided_at o (n % 256)) 0 0 0
         → record { host = x; wakings = l; told = told } ≡ after_of (do_operate (waker engine) (state_in x) p i wait bytes)
-    unfolding operated
-    range_after e el et = judged_after 34 el et ∙ does e
+    unfolding operated code_of
+    range_after e el et = judged_after 34 el (et ∙ ap (λ (y : Outcome). telling_at (code_of y) (decided_at o (n % 256)) 0 0 0) e) ∙ does e
+
+    -- .. for either reason
+    pub stopped_after : {l : List Place} {told : Told} → (o ≡ Again) ⊎ (o ≡ Range) → l ≡ list_of [] → told ≡ telling_at (code_of o) (decided_at o (n % 256)) 0 0 0
+        → record { host = x; wakings = l; told = told } ≡ after_of (do_operate (waker engine) (state_in x) p i wait bytes)
+    stopped_after (inl e) el et = again_after e el et
+    stopped_after (inr e) el et = range_after e el et
 
     -- ---- asleep
 
@@ -162,13 +168,19 @@ module _ (x : Host) (k : Held x) (p : ℕ) (i : ℤ) (wait : Wait) (bytes : List
         ∙ rw w at (does e)
 
     -- either of the two, as its wait has it
-    pub would_sleep_after : {r : Row} {l : List Place} {code : ℤ} {told : Told} → o ≡ Sleep → r ≡ cond (at_once wait) x.row (with_queue x.row (queue_in x.row ++ made ∷ []))
-        → code ≡ cond (at_once wait) (pos 11) (code_of Sleep) → l ≡ list_of [] → told ≡ telling_at code (decided_at o (n % 256)) 0 0 0
+    pub would_sleep_after : {r : Row} {l : List Place} {u : Outcome} {told : Told} → o ≡ Sleep → r ≡ cond (at_once wait) x.row (with_queue x.row (queue_in x.row ++ made ∷ []))
+        → u ≡ cond (at_once wait) Again Sleep → l ≡ list_of [] → told ≡ telling_at (code_of u) (decided_at u (n % 256)) 0 0 0
         → record { host = record { row = r; adjustments = x.adjustments }; wakings = l; told = told } ≡ after_of (do_operate (waker engine) (state_in x) p i wait bytes)
-    unfolding code_of
-    would_sleep_after {r} {l} {code} {told} e er ec el et = go (at_once wait) refl er (et ∙ ap (λ (k : ℤ). telling_at k (decided_at o (n % 256)) 0 0 0) ec)
+    unfolding code_of decided_at
+    would_sleep_after {r} {l} {u} {told} e er eu el et = go (at_once wait) refl er (et ∙ ap (λ (y : Outcome). telling_at (code_of y) (decided_at y (n % 256)) 0 0 0) eu)
       where
-        go : (b : Bool) → at_once wait ≡ b → r ≡ cond b x.row (with_queue x.row (queue_in x.row ++ made ∷ [])) → told ≡ telling_at (cond b (pos 11) (code_of Sleep)) (decided_at o (n % 256)) 0 0 0
+        -- it names the operation that a sleep names
+        named : decided_at Sleep (n % 256) ≡ decided_at o (n % 256)
+        named = sym (ap (λ (y : Outcome). decided_at y (n % 256)) e)
+
+        go : (b : Bool) → at_once wait ≡ b → r ≡ cond b x.row (with_queue x.row (queue_in x.row ++ made ∷ [])) → told ≡ telling_at (code_of (cond b Again Sleep)) (decided_at (cond b Again Sleep) (n % 256)) 0 0 0
             → record { host = record { row = r; adjustments = x.adjustments }; wakings = l; told = told } ≡ after_of (do_operate (waker engine) (state_in x) p i wait bytes)
-        go true w er et = ap (λ (y : Row). record { host = record { row = y; adjustments = x.adjustments }; wakings = l; told = told }) er ∙ at_once_after e w el et
-        go false w er et = sleep_after e w er el et
+        go true w er et =
+            ap (λ (y : Row). record { host = record { row = y; adjustments = x.adjustments }; wakings = l; told = told }) er
+            ∙ at_once_after e w el (et ∙ ap (λ (d : Position). telling_at (pos 11) d 0 0 0) named)
+        go false w er et = sleep_after e w er el (et ∙ ap (λ (d : Position). telling_at (negsuc 0) d 0 0 0) named)
