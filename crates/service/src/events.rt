@@ -28,7 +28,7 @@ const EAGAIN: u8 = 11;
 const EIDRM: u8 = 43;
 
 // What an event tells that is refused. Each event has one check and returns early once: an inner function for `?` would repeat its
-// whole signature.
+// whole signature. No `From`: `Told` is the crate model's, and `telling`, which says what it tells, is this one's.
 fn refused(refusal: Refusal) -> Told
     ensures { result ≡ telling (pos (errno_of refusal)) 0 0 0 }
 {

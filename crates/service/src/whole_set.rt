@@ -17,7 +17,7 @@ fn ones_of(masks: [u8; SEMAPHORES]) -> [u32; SEMAPHORES]
     masks.map(|mask| mask.count_ones())
 }
 
-// Refused: zeros after the code.
+// Refused: zeros after the code. No `From`: it is made once, here.
 fn refused(refusal: Refusal) -> QueriedSet
     ensures { result ≡ set_refused (errno_of refusal) }
 {

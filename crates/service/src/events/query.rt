@@ -11,7 +11,8 @@ use judging::slot_of;
 use model::{ALL_ADJUSTMENTS, Queried, Refusal, SEMAPHORES};
 use service_checks::check_query;
 
-// A refused query: zeros after the code.
+// A refused query: zeros after the code. No `From`: `Queried` is the crate model's, and `showing`, which says what it shows, is
+// this one's.
 fn refused(refusal: Refusal) -> Queried
     ensures { result ≡ showing (answer_of (pos (errno_of refusal))) 0 }
 {
