@@ -4,11 +4,11 @@ use mathlib.Core.Bool.{true, false}
 use native.Mathlib.Omega.{arith}
 use lib.Dec.{T}
 use lib.IntN.{ℤ, pos, negsuc, nat_abs}
-use lib.Signed.{mag, lt_z, le_z, non_neg}
+use lib.Signed.{mag, lt_z, non_neg}
 use mir.Syntax.{w16, w32, w64}
 use mir.Val.{SFits, Fits, to_z, of_z}
 use mir.Facts.{to_z-of_z, Fits-nat_abs}
-use borrow.Author.Tests.{le-leb, le-ltb, leb-true}
+use borrow.Author.Tests.{le-ltb, leb-true}
 use Prim.Native.Nat.{ℕ, ◌%◌}
 use Rattle.std.specs.Int.{FitsUnsignedBits}
 use Rattle.model.specs.Limits.{slots}
@@ -42,17 +42,6 @@ pub ranged : (z : ℤ) → in_range z ≡ true → T (non_neg z) × Fits w16 (na
 unfolding in_range
 ranged (pos n) t = (tt, record { fits = omega (arith, leb-true n 32767 t) })
 ranged (negsuc n) t = clash t
-
--- a value's two tests
-pub at_least_zero : (z : ℤ) → le_z (pos 0) z ≡ true → le_z z (pos 32767) ≡ in_range z
-unfolding in_range
-at_least_zero (pos n) t = refl
-at_least_zero (negsuc n) t = clash t
-
-pub below_zero : (z : ℤ) → le_z (pos 0) z ≡ false → false ≡ in_range z
-unfolding in_range
-below_zero (pos n) t = clash (sym t ∙ le-leb 0 n (omega arith))
-below_zero (negsuc n) t = refl
 
 -- an identifier is a number without a sign, or negative
 pub slot_found : (z : ℤ) → FitsUnsignedBits 64 z → {n : ℕ} → n ≡ nat_abs z → n % slots ≡ slot_of z

@@ -9,6 +9,7 @@ use lib.Signed.{mag, lt_z, le_z, non_neg, nat_abs-le}
 use mir.Syntax.{w16, w32}
 use mir.Val.{SFits, Fits, to_z, of_z}
 use mir.Facts.{to_z-of_z, to_z_pos, sfits_widen}
+use Rattle.std.specs.Int.{int_min, int_max}
 use borrow.Author.Tests.{ltb-true, ltb-false, leb-true, leb-false, lt-ltb, le-ltb}
 
 -- a test that has both answers
@@ -118,3 +119,12 @@ at_most (negsuc m) (negsuc n) false e = lt-ltb m n (leb-false n m e)
 pub unsigned : (z : ℤ) → lt_z z (pos 0) ≡ false → lt_z (pos 32767) z ≡ false → T (non_neg z) × Fits w16 (nat_abs z)
 unsigned (pos n) h k = (tt, record { fits = omega (arith, ltb-false 32767 n k) })
 unsigned (negsuc n) h k = clash (sym h)
+
+-- what is cut to 0 to 32,767 is by the two tests of less
+by_top : (n : ℕ) (t : Bool) → ltb 32767 n ≡ t → nat_abs (int_max (pos 0) (int_min (pos n) (pos 32767))) ≡ cond (ltb n 0) 0 (cond (ltb 32767 n) 32767 n)
+by_top n true e = rw (e, le-ltb n 0 (omega arith))
+by_top n false e = rw (e, le-ltb n 0 (omega arith))
+
+pub clamped : (z : ℤ) → nat_abs (int_max (pos 0) (int_min z (pos 32767))) ≡ cond (lt_z z (pos 0)) 0 (cond (lt_z (pos 32767) z) 32767 (nat_abs z))
+clamped (pos n) = by_top n (ltb 32767 n) refl
+clamped (negsuc n) = refl

@@ -67,11 +67,5 @@ pub fn cut(value: u16, adjustment: i16) -> u16
     ensures { result ≡ cut_to value adjustment }
 {
     let sum = (value as i32) + (adjustment as i32);
-    if sum < 0 {
-        0
-    } else if MOST < sum {
-        VALUE_MAX
-    } else {
-        sum as u16
-    }
+    sum.clamp(0, MOST) as u16
 }

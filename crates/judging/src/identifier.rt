@@ -20,7 +20,7 @@ pub fn slot_of(identifier: i32) -> usize
 pub fn in_range(value: i32) -> bool
     ensures { result ≡ in_range value }
 {
-    0 <= value && value <= MOST
+    (0..=MOST).contains(&value)
 }
 
 // A value in range as a semaphore holds it; 0 for any other.

@@ -1,19 +1,16 @@
+use borrow.Author.Rules.{rules}
+use mathlib.Core.Path.{ap, ◌∙◌}
+use lib.IntN.{pos, nat_abs, ◌+ℤ◌}
+use mir.Syntax.{w32}
+use mir.Val.{SFits}
+use mir.Facts.{to_z-of_z}
 use Rattle.model.specs.Events.{cut}
-use Rattle.judging.proofs.Signed.{sum_is}
+use Rattle.judging.proofs.Signed.{sum_is, clamped}
 use Rattle.judging.proofs.amount.cut.Goals as goal
 
-pub returns-then-sum-lt0 : goal.returns-then-sum-lt0
+pub returns : goal.returns
 unfolding cut
-returns-then-sum-lt0 c = rw (rw (sum_is c.ranges.value c.ranges.adjustment) at c.if-sum-lt0.true)
-
-pub returns-then-sum-gt-MOST : goal.returns-then-sum-gt-MOST
-unfolding cut
-returns-then-sum-gt-MOST c =
-    let e = sum_is c.ranges.value c.ranges.adjustment in
-    rw (rw e at c.if-sum-lt0.false, rw e at c.if-sum-gt-MOST.true)
-
-pub returns-else-sum-gt-MOST : goal.returns-else-sum-gt-MOST
-unfolding cut
-returns-else-sum-gt-MOST c =
-    let e = sum_is c.ranges.value c.ranges.adjustment in
-    rw (e, rw e at c.if-sum-lt0.false, rw e at c.if-sum-gt-MOST.false)
+returns c =
+    let fits : SFits w32 c.clamp.result = search rules in
+    ap nat_abs (to_z-of_z fits) ∙ rw (sum_is c.ranges.value c.ranges.adjustment) at (ap nat_abs c.clamp.ensures.value)
+    ∙ clamped (pos c.args.value +ℤ c.args.adjustment)

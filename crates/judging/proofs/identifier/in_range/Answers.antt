@@ -1,11 +1,31 @@
-use mathlib.Core.Path.{◌∙◌}
+use mathlib.Core.Path.{◌≡◌, refl, ◌∙◌}
+use mathlib.Core.Bool.{Bool, true, false, ◌&&◌}
+use native.Mathlib.Omega.{arith}
+use Prim.Native.Nat.{ℕ}
+use lib.Dec.{ltb, leb}
+use lib.IntN.{ℤ, pos, negsuc}
 use mir.Facts.{to_z-of_z}
-use Rattle.judging.proofs.Identifiers.{at_least_zero, below_zero}
+use borrow.Author.Tests.{ltb-true, ltb-false, le-ltb, le-leb, lt-leb}
+use Rattle.std.specs.Ordering.{is_le, int_cmp}
+use Rattle.model.specs.Checks.{in_range}
 use Rattle.judging.proofs.identifier.in_range.Goals as goal
 
-pub returns-then-value-ge0 : goal.returns-then-value-ge0
-returns-then-value-ge0 c = let e = to_z-of_z c.ranges.value in rw e (at_least_zero c.args.value (rw e at c.if-value-ge0.true))
+-- the order of std, as a test of at most
+at_most : (a b : ℕ) (t : Bool) → ltb b a ≡ t → is_le (int_cmp (pos a) (pos b)) ≡ leb a b
+at_most a b true e = rw (le-ltb a b (omega (arith, ltb-true b a e)), e, lt-leb a b (omega (arith, ltb-true b a e)))
+at_most a b false e = by_less (ltb a b) refl
+  where
+    by_less : (t : Bool) → ltb a b ≡ t → is_le (int_cmp (pos a) (pos b)) ≡ leb a b
+    by_less true h = rw (h, le-leb a b (omega (arith, ltb-false b a e)))
+    by_less false h = rw (h, e, le-leb a b (omega (arith, ltb-false b a e)))
 
-pub returns-else-value-ge0 : goal.returns-else-value-ge0
-returns-else-value-ge0 c =
-    c.if-value-ge0.false ∙ below_zero c.args.value (rw (to_z-of_z c.ranges.value) at c.if-value-ge0.false)
+-- the two ends
+both : (v : ℤ) → is_le (int_cmp (pos 0) v) && is_le (int_cmp v (pos 32767)) ≡ in_range v
+unfolding in_range
+both (pos n) = rw (at_most 0 n (ltb n 0) refl, at_most n 32767 (ltb 32767 n) refl, le-leb 0 n (omega arith))
+both (negsuc n) = refl
+
+pub returns : goal.returns
+returns c =
+    rw (c.new.ensures.start, c.new.ensures.end, c.new.ensures.exhausted, to_z-of_z c.ranges.value) at c.contains.ensures.value
+    ∙ both c.args.value
