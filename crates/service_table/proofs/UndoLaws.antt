@@ -6,11 +6,9 @@ use mathlib.Core.Path.{◌≡◌, refl, sym, ap, ap₂, ◌∙◌}
 use mathlib.Core.Bool.{true}
 use mathlib.Core.List.{List, [], ◌∷◌}
 use lib.IntN.{ℤ, pos}
-use lib.ListN.{length, get_or, set, take, drop, replicate, length-set}
+use lib.ListN.{length, get_or, take, drop, replicate}
 use lib.Seq.{sets, paste, length-slice, length-paste}
 use borrow.Author.Tests.{eq-eqb, le-ltb}
-use Rattle.std.proofs.Common.{below_more, get_or-set_same, get_or-set_other}
-use Rattle.std.proofs.lemmas.List.{ext_get_or}
 use Rattle.model.specs.Limits.{slots, semaphores, value_max, all_semaphores, all_adjustments}
 use Rattle.model.specs.State.{Table, with_values, with_adjustments, row, undo_row}
 use Rattle.model.specs.Look.{values_of, adjustments_of}
@@ -83,30 +81,6 @@ unfolding undo_all
 undone_small [] us h = none
 undone_small (v ∷ vs) [] h = h
 undone_small (v ∷ vs) (u ∷ us) h = also (cut_small v u) (undone_small vs us (rest h))
-
--- the loop: the first k are cut, the others as they were
-pub record Cutting (vs : List ℕ) (us : List ℤ) (out : List ℕ) (k : ℕ) : Type 0 where
-  pub long : length out ≡ length vs
-  pub below : (j : ℕ) → j < k → get_or out j 0 ≡ get_or (undo_all vs us) j 0
-  pub others : (j : ℕ) → k ≤ j → get_or out j 0 ≡ get_or vs j 0
-
-pub cut_none : (vs : List ℕ) (us : List ℤ) → Cutting vs us vs 0
-cut_none vs us = record { long = refl; below = λ j h. absurd (not-suc-le-zero h); others = λ j h. refl }
-
-pub cut_more : {vs : List ℕ} {us : List ℤ} {out : List ℕ} {k : ℕ} → Cutting vs us out k → k < length vs → k < length us → (x : ℕ) → x ≡ cut (get_or out k 0) (get_or us k (pos 0))
-    → Cutting vs us (set out k x) (k + 1)
-cut_more {vs} {us} {out} {k} v h g x e =
-    let inside : k < length out = omega (arith, v.long) in
-    let here : get_or (set out k x) k 0 ≡ get_or (undo_all vs us) k 0 =
-    get_or-set_same out k x 0 inside ∙ e ∙ ap (λ (y : ℕ). cut y (get_or us k (pos 0))) (v.others k (omega arith)) ∙ sym (undone_at vs us k h g) in
-    record {
-      long = length-set out k x ∙ v.long;
-      below = below_more (λ (j : ℕ). get_or (set out k x) j 0 ≡ get_or (undo_all vs us) j 0) k (λ j l. get_or-set_other out k j x 0 (λ e. omega arith) ∙ v.below j l) here;
-      others = λ j l. get_or-set_other out k j x 0 (λ e. omega arith) ∙ v.others j (omega arith);
-    }
-
-pub cut_done : {vs : List ℕ} {us : List ℤ} {out : List ℕ} {k : ℕ} → Cutting vs us out k → length vs ≤ k → out ≡ undo_all vs us
-cut_done {vs} {us} {out} {k} v h = ext_get_or 0 out (undo_all vs us) (v.long ∙ sym (length_undone vs us)) (λ j l. v.below j (omega (arith, v.long)))
 
 -- a mask of values that do not differ is empty
 pub differing_none : (m i : ℕ) (xs : List ℕ) → differing m i xs xs ≡ m

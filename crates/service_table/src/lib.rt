@@ -27,6 +27,7 @@ use host::{
 use judging::{cut, value_in};
 use model::{ALL_ADJUSTMENTS, ALL_SEMAPHORES, Copies, PROCESSES, SEMAPHORES, VALUE_BYTES};
 pub use process::Process;
+use std::array;
 
 // The numbers at which two rows of values differ, as a mask.
 pub fn differing_mask(before: [u16; SEMAPHORES], after: [u16; SEMAPHORES]) -> u8
@@ -58,7 +59,8 @@ pub fn apply(
     put_adjustments(adjustments, process, slot, copies.adjustments);
 }
 
-// Puts the adjustments of every process for a slot to 0.
+// Puts the adjustments of every process for a slot to 0. Counted from 0, as `clear_rows` counts the rows that are clear; host's
+// writer takes a process, from 1.
 fn clear_adjustments(adjustments: &mut [i16; ALL_ADJUSTMENTS], slot: usize)
     requires { IsSlot slot }
     ensures { adjustments.new ≡ clear_rows processes slot adjustments.old }
@@ -82,7 +84,7 @@ pub fn clear_slot(
     clear_adjustments(adjustments, slot);
 }
 
-// Puts every process's adjustment of a semaphore to 0.
+// Puts every process's adjustment of a semaphore to 0. By the index, which host's writer takes: its promise is of the whole array.
 fn forget(adjustments: &mut [i16; ALL_ADJUSTMENTS], slot: usize, number: usize)
     requires slot { IsSlot slot }
     requires number { IsNumber number }
@@ -110,7 +112,8 @@ pub fn assign(
     forget(adjustments, slot, number);
 }
 
-// Gives the semaphores of a slot, from its first on, the values that these bytes hold.
+// Gives the semaphores of a slot, from its first on, the values that these bytes hold. Counted by hand: `value_in` promises a value
+// by its number, which its place in the row needs too.
 fn put_all(host: &mut [u8; HOST_BYTES], slot: usize, bytes: &[u8])
     requires { IsSlot slot }
     ensures { row_in host.new ≡ with_values_from (row_in host.old) (row slot) (values_held (values_in bytes.now)) }
@@ -146,12 +149,7 @@ fn all_zero(undo: [i16; SEMAPHORES]) -> bool
 fn cut_all(values: [u16; SEMAPHORES], undo: [i16; SEMAPHORES]) -> [u16; SEMAPHORES]
     ensures { result ≡ undo_all values undo }
 {
-    let mut out = values;
-    // `undo` by the index: what a `zip` over `iter_mut` leaves in `out`, the prover doesn't know behind the loop.
-    for (k, value) in out.iter_mut().enumerate() {
-        *value = cut(*value, undo[k]);
-    }
-    out
+    array::from_fn(|k| cut(values[k], undo[k]))
 }
 
 // Adds each adjustment of a process for a slot to its semaphore, cut to what a value can be, and puts it to 0. The answer is
