@@ -51,7 +51,8 @@ pub fn fall_asleep(
     put_asleep(host, (n as u8) + 1);
 }
 
-// Those behind a position move up by one, as far as the last, whose place is free then.
+// Those behind a position move up by one, as far as the last, whose place is free then. By the index: the order lies within the
+// row, and host's reader and writer take a position.
 fn move_up(host: &mut [u8; HOST_BYTES], at: usize, last: usize)
     requires { (at ≤ last) × (last < processes) }
     ensures { row_in host.new ≡ with (row_in host.old) order (moved_up (row_in host.old order) at last) }
@@ -124,6 +125,7 @@ pub fn end_all<F: Fn(&[u8; HOST_BYTES], u8) -> bool>(
     ensures { (test : Sleeper → Bool) → Tells F.Fn ended test → EndedAll test (pos code) (row_in host.old) (row_in host.new) (places_in wakings.new) result }
 {
     let mut woken = 0;
+    // Stepped by hand: who is taken out leaves the position to the next.
     let mut at = 0;
     for _ in 0..asleep_of(&*host) {
         let process = process_at(&*host, at);

@@ -29,7 +29,8 @@ use service_queue::take_out;
 use service_table::{Process, apply, differing_mask};
 use wakings::note;
 
-// The looks and the wakings so far.
+// The looks and the wakings so far. That a rule begins with `looks_max` at most stands in its clause, and is no invariant: it may
+// return more.
 #[derive(Clone, Copy, Default)]
 pub struct Tally {
     pub looks: usize,
@@ -43,7 +44,8 @@ pub fn bit_of(process: Process) -> u8
     1u8 << (process.number - 1)
 }
 
-// The code that a finished sleeper is told: 0, 11 or 34. It is a number, as the list of wakings has it for C.
+// The code that a finished sleeper is told: 0, 11 or 34. It is a number, as the list of wakings has it for C,
+// and no `From`: both types are of other crates.
 fn ending(outcome: Outcome) -> u8
     ensures { result ≡ nat_abs (code_of outcome) }
 {
@@ -57,7 +59,7 @@ fn ending(outcome: Outcome) -> u8
 
 // What a look told: the position where judging ended, of a done array the copies of the values and of the adjustments as it
 // leaves them, of any other zeros, and the outcome. It stands last: behind its one byte the copies would be read across words,
-// which takes longer.
+// which takes longer. No `Option` of the copies: the outcome, which goes on in any case, tells whether they count.
 #[derive(Clone, Copy)]
 struct Looked {
     pub position: usize,
@@ -137,7 +139,8 @@ fn finish(
 }
 
 // "at the first that is finished, take it out and begin again at the oldest": the round is left from inside its judging
-// loop and started anew. It differs from the quick rule in what a look does to the marks, and in no constant or type.
+// loop and started anew. It differs from the quick rule in no constant or type: that one passes over who has no mark, takes off
+// the mark of who is looked at, marks anew behind each that it finishes, and ends where no mark is left.
 fn wake_plain(
     host: &mut [u8; HOST_BYTES],
     adjustments: &mut [i16; ALL_ADJUSTMENTS],
@@ -177,7 +180,7 @@ fn wake_plain(
     }
 }
 
-// The marks, and those of the sleepers of a slot that name a touched semaphore.
+// The marks, and those of the sleepers of a slot that name a touched semaphore. Counted from 0: a process's bit is so far up.
 fn mark_touched(host: &[u8; HOST_BYTES], slot: usize, touched: u8, marks: u8) -> u8
     requires slot { IsSlot slot }
     requires queue_held { QueueHeld (row_in host.now) }
