@@ -4,7 +4,7 @@
 // the first is woken. That each check below holds is proved from the events' promises alone.
 #![tactic(auto)]
 
-use model::{Engine, MODE_MAX, WAKING_BYTES, Wait};
+use model::{Engine, MODE_MAX, WAKING_BYTES};
 use service::{create, operate};
 
 // The file descriptor of standard output.

@@ -6,7 +6,8 @@ use native.Mathlib.Omega.{arith}
 use mathlib.Core.Bool.{cond}
 use lib.Dec.{ltb}
 use lib.IntN.{pos, negsuc}
-use lib.ListN.{get_or}
+use lib.ListN.{get_or, take}
+use lib.Seq.{get_or-take}
 use Rattle.std.specs.Int.{w16, w32, w64, from_le_bytes, cast_signed}
 use Rattle.model.specs.Values.{signed32}
 use Rattle.runfile.specs.Fields.{byte_at, half_at, word_at, long_at, signed_at}
@@ -14,6 +15,12 @@ use Rattle.runfile.specs.Fields.{byte_at, half_at, word_at, long_at, signed_at}
 -- so many bytes from a position on, as `bytes_at` reads them
 abbrev pub Reads : ℕ → List ℕ → ℕ → List ℕ → Type 0
 Reads n file at bytes = (k : ℕ) → k < n → get_or bytes k 0 ≡ byte_at file (at + k)
+
+-- the first so many bytes, as `first_chunk` gives them
+pub first_is : (n : ℕ) (file bytes : List ℕ) → bytes ≡ take n file → Reads n file 0 bytes
+first_is n file bytes e k h =
+    let z : k ≡ 0 + k = omega arith in
+    rw e (get_or-take n file k 0 h) ∙ ap (byte_at file) z
 
 worth_2 : (bytes : List ℕ) → from_le_bytes w16 bytes ≡ get_or bytes 0 0 + get_or bytes 1 0 * 256
 worth_2 bytes = refl

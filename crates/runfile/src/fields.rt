@@ -1,6 +1,6 @@
 // The bytes in a run file, and parts of it. A byte past the end reads as 0. Numbers are little-endian: they are made of bytes by
 // std's `from_le_bytes`, and proofs/Numbers.antt has that those are the numbers of specs/Fields.antt.
-ghost use Rattle.std.specs.Prelude.{◌≡◌, ℕ, ◌+◌, ◌<◌, length, take, drop, slice_index};
+ghost use Rattle.std.specs.Prelude.{◌≡◌, ℕ, ◌+◌, ◌<◌, take, drop, slice_index};
 ghost use Rattle.runfile.specs.Fields.{byte_at};
 
 // The byte at a position.

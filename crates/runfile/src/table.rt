@@ -1,11 +1,10 @@
 // The table of contents, and the check of a whole file.
-ghost use Rattle.std.specs.Prelude.{◌≡◌, ◌≤◌, length};
-ghost use Rattle.runfile.specs.Table.{count_in, table_end};
+ghost use Rattle.std.specs.Prelude.{◌≡◌, ◌<◌, ◌≤◌, MatchOption, length};
+ghost use Rattle.runfile.specs.Table.{head_bytes, count_in, table_end};
 ghost use Rattle.runfile.specs.File.{bodies_of, bad_code, code_in, code_of_file};
 
 use crate::bad_file::BadFile;
 use crate::bodies::check_body;
-use crate::fields::bytes_at;
 
 // The longest file, and the bytes of its head and of an entry of its table.
 pub const FILE_MAX: usize = 65535;
@@ -14,15 +13,19 @@ pub const HEAD_BYTES: usize = 2;
 
 pub const ENTRY_BYTES: usize = 4;
 
-// The number of events, as the head has it.
+// The number of events that the head has; none of a file that is too short for a head.
+fn head(file: &[u8]) -> Option<u16>
+    ensures { MatchOption result (length file.now < head_bytes) (λ n. (head_bytes ≤ length file.now) × (n ≡ count_in file.now)) }
+{
+    let head = file.first_chunk::<HEAD_BYTES>()?;
+    Some(u16::from_le_bytes(*head))
+}
+
+// The number of events; 0 of a file that is too short for a head.
 pub fn count(file: &[u8]) -> usize
     ensures { result ≡ count_in file.now }
 {
-    if file.len() < HEAD_BYTES {
-        0
-    } else {
-        u16::from_le_bytes(bytes_at(file, 0)) as usize
-    }
+    head(file).unwrap_or(0) as usize
 }
 
 // Checks n bodies: each begins where the one before ended, and the file ends with the last; else the first bad one decides.
@@ -56,10 +59,10 @@ pub fn check(file: &[u8]) -> Result<(), BadFile>
     if FILE_MAX < file.len() {
         return Err(BadFile::Table);
     }
-    if file.len() < HEAD_BYTES {
+    let Some(count) = head(file) else {
         return Err(BadFile::Table);
-    }
-    let n = u16::from_le_bytes(bytes_at(file, 0)) as usize;
+    };
+    let n = count as usize;
     if file.len() < HEAD_BYTES + ENTRY_BYTES * n {
         return Err(BadFile::Table);
     }

@@ -1,13 +1,14 @@
-use mathlib.Core.Path.{◌∙◌}
-use borrow.Author.Tests.{lt-ltb, le-ltb}
-use Rattle.runfile.specs.Table.{count_in}
-use Rattle.runfile.proofs.Numbers.{half_is}
+use Rattle.std.proofs.Common.{◌≡◌, ℕ, ◌<◌, ◌≤◌, List, length, ◌∙◌}
+use Rattle.std.specs.Prelude.{Option, Some, None, MatchOption, unwrap_or}
+use borrow.Author.Tests.{lt-ltb}
+use Rattle.runfile.specs.Table.{count_in, head_bytes}
 use Rattle.runfile.proofs.table.count.Goals as goal
 
-pub returns-then-file-lt-HEAD_BYTES : goal.returns-then-file-lt-HEAD_BYTES
+-- the number, where there is a head and where there is none
+number : (file : List ℕ) (n : Option ℕ) → MatchOption n (length file < head_bytes) (λ n. (head_bytes ≤ length file) × (n ≡ count_in file)) → unwrap_or n 0 ≡ count_in file
 unfolding count_in
-returns-then-file-lt-HEAD_BYTES c = rw (lt-ltb _ _ c.if-file-lt-HEAD_BYTES.true)
+number file None short = rw (lt-ltb _ _ short)
+number file (Some n) there = there.1
 
-pub returns-else-file-lt-HEAD_BYTES : goal.returns-else-file-lt-HEAD_BYTES
-unfolding count_in
-returns-else-file-lt-HEAD_BYTES c = rw (le-ltb _ _ c.if-file-lt-HEAD_BYTES.false) (c.from_le_bytes.ensures ∙ half_is _ 0 _ c.bytes_at.ensures)
+pub returns : goal.returns
+returns c = c.unwrap_or.ensures ∙ number c.args.file.now c.head.result c.head.ensures
