@@ -7,7 +7,8 @@ use crate::bytes::Number;
 use model::{ALL_BYTES, ALL_SEMAPHORES, PROCESSES, SETS};
 use std::marker::PhantomData;
 
-// A part: its place, how many numbers it has, and their type.
+// A part: its place, how many numbers it has, and their type. That it lies within the row is asked in three contracts, and is no
+// ghost field: a constant is checked against one only where it is passed, so each use would prove it as it does now.
 #[derive(Clone, Copy)]
 pub struct Part<T> {
     pub at: usize,
