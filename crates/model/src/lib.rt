@@ -85,7 +85,7 @@ impl From<Refusal> for i32 {
 
 // A slot. `count` is the number of semaphores, 0 in a free slot; owner and group are its creator's, and the mode has nine
 // permission bits.
-#[derive(Clone, Copy)]
+#[derive(Clone, Copy, PartialEq, Eq, Debug)]
 pub struct Set {
     pub generation: u16,
     pub count: u8,
@@ -95,7 +95,7 @@ pub struct Set {
 }
 
 // Who asks: the user and the group number of a process.
-#[derive(Clone, Copy)]
+#[derive(Clone, Copy, PartialEq, Eq, Debug)]
 pub struct Caller {
     pub user: u32,
     pub group: u32,
@@ -110,14 +110,14 @@ pub struct Operation {
 }
 
 // Why an amount makes no new value: it would be over 32,767, or the operation stops.
-#[derive(Clone, Copy)]
+#[derive(Clone, Copy, PartialEq, Eq, Debug)]
 pub enum Halt {
     Over,
     Stop,
 }
 
 // What judging an array comes to.
-#[derive(Clone, Copy, PartialEq, Eq)]
+#[derive(Clone, Copy, PartialEq, Eq, Debug)]
 pub enum Outcome {
     Done,
     Sleep,
@@ -148,7 +148,7 @@ pub struct Judged {
 pub type Wait = Option<u32>;
 
 // Which waking rule an event goes by.
-#[derive(Clone, Copy)]
+#[derive(Clone, Copy, PartialEq, Eq, Debug)]
 pub enum Engine {
     Plain,
     Quick,
