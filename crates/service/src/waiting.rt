@@ -7,13 +7,12 @@ ghost use Rattle.model.specs.Marks.{bit_of};
 ghost use Rattle.host.specs.Parts.{row_in, sleeps_at, sizes};
 ghost use Rattle.host.specs.Holding.{Held, host_in, table_in, queue_in, entry, room_in};
 ghost use Rattle.judging.specs.Stop.{stop_from, goes_through, number_of, amount_of};
-ghost use Rattle.service_table.specs.Numbered.{IsSlot};
 ghost use Rattle.service.specs.Waiting.{waiters_of, wait_if};
 
 use host::{HOST_BYTES, room_of, size_at, slot_byte, values_of};
 use judging::{Stop, is_negative, stop_of};
 use model::{ALL_ADJUSTMENTS, PROCESSES, SEMAPHORES};
-use service_table::Process;
+use service_table::{Process, Slot};
 use service_waking::bit_of;
 
 // At each semaphore of a set the processes that wait there, as masks: for an increase, and for zero; and how many arrays were
@@ -66,17 +65,12 @@ fn judge_one(
 
 // The walk goes by process: a process sleeps at most once, and the masks are of processes. Each sleeper of the set is judged
 // once, and none of another set. The adjustments are lent for the premise alone: where a sleeper stops, the values tell.
-pub fn waiting(
-    host: &[u8; HOST_BYTES],
-    adjustments: &[i16; ALL_ADJUSTMENTS],
-    slot: usize,
-) -> Waiters
-    requires held { Held (host_in host.now adjustments.now) }
-    requires slot { IsSlot slot }
-    ensures { result ≡ waiters_of (table_in (host_in host.now adjustments.now)) slot (queue_in (host_in host.now adjustments.now).row) }
+pub fn waiting(host: &[u8; HOST_BYTES], adjustments: &[i16; ALL_ADJUSTMENTS], slot: Slot) -> Waiters
+    requires { Held (host_in host.now adjustments.now) }
+    ensures { result ≡ waiters_of (table_in (host_in host.now adjustments.now)) slot.index (queue_in (host_in host.now adjustments.now).row) }
 {
-    let values = values_of(host, slot);
-    let wanted = (slot % 256) as u8;
+    let values = values_of(host, slot.index);
+    let wanted = (slot.index % 256) as u8;
     let mut increase = [0u8; SEMAPHORES];
     let mut zero = [0u8; SEMAPHORES];
     let mut judged: u8 = 0;

@@ -9,6 +9,7 @@ use host::{HOST_BYTES, lasts_of, set_at, values_of};
 use judging::slot_of;
 use model::{ALL_ADJUSTMENTS, QueriedSet, READ, Refusal, SEMAPHORES};
 use service_checks::check_access;
+use service_table::Slot;
 
 // How many processes are in each mask: the number of ones in it.
 fn ones_of(masks: [u8; SEMAPHORES]) -> [u32; SEMAPHORES]
@@ -49,7 +50,7 @@ pub fn query_set(
     }
     let slot = slot_of(identifier);
     let set = set_at(host, slot);
-    let waiters = waiting(host, adjustments, slot);
+    let waiters = waiting(host, adjustments, Slot { index: slot });
     let increase = waiters.increase;
     let zero = waiters.zero;
     QueriedSet {

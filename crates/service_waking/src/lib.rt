@@ -15,7 +15,6 @@ ghost use Rattle.model.specs.Marks.{bit_of, mark_touched};
 ghost use Rattle.host.specs.Parts.{row_in};
 ghost use Rattle.host.specs.Holding.{host_in, queue_in, table_in};
 ghost use Rattle.host.specs.Queue.{QueueHeld};
-ghost use Rattle.service_table.specs.Numbered.{IsSlot};
 ghost use Rattle.service_table.specs.Written.{tabled};
 ghost use Rattle.service_waking.specs.Lent.{lent_in, world_in, lent_with, left_in, Ready, JudgedAs, Settleable, Finishable, plainly, quickly, treated, treated_from, looks_max};
 
@@ -26,7 +25,7 @@ use host::{
 use judging::{Verdict, decided, finishes, judge};
 use model::{ALL_ADJUSTMENTS, Copies, Engine, Outcome, PROCESSES, SEMAPHORES, SETS, WAKING_BYTES};
 use service_queue::take_out;
-use service_table::{Process, apply, differing_mask};
+use service_table::{Process, Slot, apply, differing_mask};
 use wakings::note;
 
 // The looks and the wakings so far. That a rule begins with `looks_max` at most stands in its clause, and is no invariant: it may
@@ -145,20 +144,19 @@ fn wake_plain(
     host: &mut [u8; HOST_BYTES],
     adjustments: &mut [i16; ALL_ADJUSTMENTS],
     wakings: &mut [u8; WAKING_BYTES],
-    slot: usize,
+    slot: Slot,
     start: Tally,
 ) -> Tally
-    requires slot { IsSlot slot }
     requires ready { Ready (lent_in host.old adjustments.old wakings.old start.woken) }
     requires looks_le_looks_max { start.looks ≤ looks_max }
-    ensures { left_in host.new adjustments.new wakings.new result ≡ plainly slot (lent_in host.old adjustments.old wakings.old start.woken) start.looks }
+    ensures { left_in host.new adjustments.new wakings.new result ≡ plainly slot.index (lent_in host.old adjustments.old wakings.old start.woken) start.looks }
 {
     let mut tally = start;
     'rounds: loop {
         let n = asleep_of(&*host);
         for i in 0..n {
             let process = process_at(&*host, i);
-            if slot_at(&*host, process) == slot {
+            if slot_at(&*host, process) == slot.index {
                 tally.looks += 1;
                 let looked = look(&*host, &*adjustments, i);
                 let outcome = looked.outcome;
@@ -181,12 +179,11 @@ fn wake_plain(
 }
 
 // The marks, and those of the sleepers of a slot that name a touched semaphore. Counted from 0: a process's bit is so far up.
-fn mark_touched(host: &[u8; HOST_BYTES], slot: usize, touched: u8, marks: u8) -> u8
-    requires slot { IsSlot slot }
-    requires queue_held { QueueHeld (row_in host.now) }
-    ensures { result ≡ mark_touched slot touched marks (queue_in (row_in host.now)) }
+fn mark_touched(host: &[u8; HOST_BYTES], slot: Slot, touched: u8, marks: u8) -> u8
+    requires { QueueHeld (row_in host.now) }
+    ensures { result ≡ mark_touched slot.index touched marks (queue_in (row_in host.now)) }
 {
-    let wanted = (slot % 256) as u8;
+    let wanted = (slot.index % 256) as u8;
     let mut m = marks;
     for n in 0..PROCESSES {
         let process = (n as u8) + 1;
@@ -204,14 +201,13 @@ fn wake_quick(
     host: &mut [u8; HOST_BYTES],
     adjustments: &mut [i16; ALL_ADJUSTMENTS],
     wakings: &mut [u8; WAKING_BYTES],
-    slot: usize,
+    slot: Slot,
     first: u8,
     start: Tally,
 ) -> Tally
-    requires slot { IsSlot slot }
     requires ready { Ready (lent_in host.old adjustments.old wakings.old start.woken) }
     requires looks_le_looks_max { start.looks ≤ looks_max }
-    ensures { left_in host.new adjustments.new wakings.new result ≡ quickly slot first (lent_in host.old adjustments.old wakings.old start.woken) start.looks }
+    ensures { left_in host.new adjustments.new wakings.new result ≡ quickly slot.index first (lent_in host.old adjustments.old wakings.old start.woken) start.looks }
 {
     let mut tally = start;
     let mut marks = first;
@@ -225,13 +221,13 @@ fn wake_quick(
             let bit = bit_of(Process { number: process });
             let on = marks & bit;
             if on != 0 {
-                if slot_at(&*host, process) == slot {
+                if slot_at(&*host, process) == slot.index {
                     marks = marks ^ bit;
                     tally.looks += 1;
                     let looked = look(&*host, &*adjustments, i);
                     let outcome = looked.outcome;
                     if finishes(outcome) {
-                        let before = values_of(&*host, slot);
+                        let before = values_of(&*host, slot.index);
                         finish(
                             &mut *host,
                             &mut *adjustments,
@@ -241,7 +237,7 @@ fn wake_quick(
                             looked,
                         );
                         tally.woken += 1;
-                        let touched = differing_mask(before, values_of(&*host, slot));
+                        let touched = differing_mask(before, values_of(&*host, slot.index));
                         marks = mark_touched(&*host, slot, touched, marks);
                         continue 'rounds;
                     }
@@ -259,14 +255,13 @@ pub fn wake(
     adjustments: &mut [i16; ALL_ADJUSTMENTS],
     wakings: &mut [u8; WAKING_BYTES],
     engine: Engine,
-    slot: usize,
+    slot: Slot,
     touched: u8,
     start: Tally,
 ) -> Tally
-    requires slot { IsSlot slot }
     requires ready { Ready (lent_in host.old adjustments.old wakings.old start.woken) }
     requires looks_le_looks_max { start.looks ≤ looks_max }
-    ensures { left_in host.new adjustments.new wakings.new result ≡ treated engine slot touched (lent_in host.old adjustments.old wakings.old start.woken) start.looks }
+    ensures { left_in host.new adjustments.new wakings.new result ≡ treated engine slot.index touched (lent_in host.old adjustments.old wakings.old start.woken) start.looks }
 {
     match engine {
         Engine::Plain => wake_plain(host, adjustments, wakings, slot, start),
@@ -301,7 +296,7 @@ pub fn wake_all(
                 &mut *adjustments,
                 &mut *wakings,
                 engine,
-                slot,
+                Slot { index: slot },
                 *mask,
                 tally,
             );

@@ -8,7 +8,7 @@ use crate::events::{done, refused};
 use host::{HOST_BYTES, caller_of, put_set, set_at};
 use model::{ALL_ADJUSTMENTS, SETS, Set, Told, WAKING_BYTES};
 use service_checks::check_create;
-use service_table::clear_slot;
+use service_table::{Slot, clear_slot};
 use wakings::clear;
 
 pub fn create(
@@ -38,6 +38,6 @@ pub fn create(
         mode: mode,
     };
     put_set(&mut *host, slot, set);
-    clear_slot(host, adjustments, slot);
+    clear_slot(host, adjustments, Slot { index: slot });
     done((slot as u32) + (SETS as u32) * (generation as u32))
 }

@@ -13,7 +13,7 @@ use host::HOST_BYTES;
 use model::{ALL_ADJUSTMENTS, Engine, SETS, Told, WAKING_BYTES};
 use service_checks::check_process;
 use service_queue::leave;
-use service_table::{Process, undo_slot};
+use service_table::{Process, Slot, undo_slot};
 use service_waking::wake_all;
 use wakings::clear;
 
@@ -29,7 +29,7 @@ fn undo_all(
 {
     let mut touched = [0u8; SETS];
     for (slot, mask) in touched.iter_mut().enumerate() {
-        *mask = undo_slot(&mut *host, &mut *adjustments, process, slot);
+        *mask = undo_slot(&mut *host, &mut *adjustments, process, Slot { index: slot });
     }
     touched
 }

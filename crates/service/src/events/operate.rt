@@ -20,7 +20,7 @@ use judging::{judge, slot_of};
 use model::{ALL_ADJUSTMENTS, Copies, Engine, Outcome, Told, WAKING_BYTES, Wait};
 use service_checks::check_operate;
 use service_queue::fall_asleep;
-use service_table::{apply, differing_mask};
+use service_table::{Slot, apply, differing_mask};
 use service_waking::{Tally, wake};
 use wakings::clear;
 
@@ -94,7 +94,7 @@ pub fn operate(
                 adjustments,
                 wakings,
                 engine,
-                slot,
+                Slot { index: slot },
                 touched,
                 Tally::default(),
             ))

@@ -10,6 +10,7 @@ use host::{HOST_BYTES, last_at, value_at};
 use judging::slot_of;
 use model::{ALL_ADJUSTMENTS, Queried, Refusal, SEMAPHORES};
 use service_checks::check_query;
+use service_table::Slot;
 
 // A refused query: zeros after the code. No `From`: `Queried` is the crate model's, and `showing`, which says what it shows, is
 // this one's.
@@ -39,7 +40,7 @@ pub fn query(
     let slot = slot_of(identifier);
     let n = number as usize;
     let at = slot * SEMAPHORES + n;
-    let waiters = waiting(host, adjustments, slot);
+    let waiters = waiting(host, adjustments, Slot { index: slot });
     let increase = waiters.increase[n];
     let zero = waiters.zero[n];
     Queried {

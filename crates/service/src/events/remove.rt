@@ -10,7 +10,7 @@ use judging::slot_of;
 use model::{ALL_ADJUSTMENTS, Set, Told, WAKING_BYTES};
 use service_checks::check_remove;
 use service_queue::end_all;
-use service_table::clear_slot;
+use service_table::{Slot, clear_slot};
 use service_waking::Tally;
 use wakings::clear;
 
@@ -38,7 +38,7 @@ pub fn remove(
         mode: 0,
     };
     put_set(&mut *host, slot, set);
-    clear_slot(&mut *host, adjustments, slot);
+    clear_slot(&mut *host, adjustments, Slot { index: slot });
     let woken = end_all(
         host,
         wakings,

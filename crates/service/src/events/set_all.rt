@@ -12,7 +12,7 @@ use host::{HOST_BYTES, set_at};
 use judging::slot_of;
 use model::{ALL_ADJUSTMENTS, Engine, Told, WAKING_BYTES};
 use service_checks::check_set_all;
-use service_table::assign_all;
+use service_table::{Slot, assign_all};
 use service_waking::{Tally, wake};
 use wakings::clear;
 
@@ -42,8 +42,10 @@ pub fn set_all(
     if let Err(refusal) = check_set_all(&*host, process, identifier, values) {
         return refused(refusal);
     }
-    let slot = slot_of(identifier);
-    let set = set_at(&*host, slot);
+    let slot = Slot {
+        index: slot_of(identifier),
+    };
+    let set = set_at(&*host, slot.index);
     assign_all(&mut *host, &mut *adjustments, slot, values);
     let touched = every_number(set.count);
     told(wake(

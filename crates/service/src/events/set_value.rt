@@ -10,7 +10,7 @@ use host::HOST_BYTES;
 use judging::{slot_of, value_of};
 use model::{ALL_ADJUSTMENTS, Engine, Told, WAKING_BYTES};
 use service_checks::check_set_value;
-use service_table::assign;
+use service_table::{Slot, assign};
 use service_waking::{Tally, wake};
 use wakings::clear;
 
@@ -32,7 +32,9 @@ pub fn set_value(
     if let Err(refusal) = check_set_value(&*host, process, identifier, number, value) {
         return refused(refusal);
     }
-    let slot = slot_of(identifier);
+    let slot = Slot {
+        index: slot_of(identifier),
+    };
     let at = number as usize;
     assign(&mut *host, &mut *adjustments, slot, at, value_of(value));
     let touched = 1u8 << at;

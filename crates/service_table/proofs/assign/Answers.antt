@@ -20,4 +20,4 @@ given h a slot n v r₁ a' e f = ap₂ host_as (e ∙ by_parts _ _ refl) f
 pub returns : goal.returns
 returns c =
     let k = c.args in
-    given k.host.now _ k.slot k.number k.value _ _ c.put_value.ensures c.forget.ensures
+    given k.host.now _ k.slot.index k.number k.value _ _ c.put_value.ensures c.forget.ensures

@@ -22,4 +22,4 @@ given h a slot vs r₁ a' e f = ap₂ host_as (e ∙ by_parts _ _ refl) f
 pub returns : goal.returns
 returns c =
     let k = c.args in
-    given k.host.now k.adjustments.now k.slot (values_held (values_in k.bytes.now)) _ _ c.put_all.ensures c.clear_adjustments.ensures
+    given k.host.now k.adjustments.now k.slot.index (values_held (values_in k.bytes.now)) _ _ c.put_all.ensures c.clear_adjustments.ensures

@@ -6,4 +6,4 @@ pub loop-n-init : goal.loop-n-init
 loop-n-init c = clear_none _ _ (search rules)
 
 pub loop-n-preserved : goal.loop-n-preserved
-loop-n-preserved c = clear_more _ c.loop-n.invariant c.requires c.loop-n-test.true c.put_adjustments.ensures
+loop-n-preserved c = clear_more _ c.loop-n.invariant c.args.slot.there_is c.loop-n-test.true c.put_adjustments.ensures

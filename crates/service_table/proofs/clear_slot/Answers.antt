@@ -29,5 +29,5 @@ zeros h a slot k r₁ r₂ a' e f g =
 
 pub returns : goal.returns
 returns c =
-    zeros c.args.host.now _ _ c.requires _ _ _
+    zeros c.args.host.now _ _ c.args.slot.there_is _ _ _
     c.put_values.ensures c.put_lasts.ensures c.clear_adjustments.ensures

@@ -10,4 +10,4 @@ use Rattle.service_table.proofs.put_all.Given as goal
 
 -- `put_all` meets its contract: the row with the values from here on is the row with all of them.
 abbrev pub invariant-loop-n : goal.invariant-loop-n
-invariant-loop-n l = with_values_from (row_in l.host) (row l.slot + l.n) (held_from l.bytes l.n) ≡ with_values_from (row_in l.initial.host) (row l.slot) (values_held (values_in l.bytes))
+invariant-loop-n l = with_values_from (row_in l.host) (row l.slot.index + l.n) (held_from l.bytes l.n) ≡ with_values_from (row_in l.initial.host) (row l.slot.index) (values_held (values_in l.bytes))

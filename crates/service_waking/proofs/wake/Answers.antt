@@ -6,7 +6,7 @@ pub returns-then-touched-eq0 : goal.returns-then-touched-eq0
 returns-then-touched-eq0 c = wakes_nobody _ _ _ _ c.in-Quick.is c.requires.ready c.if-touched-eq0.true
 
 pub mark_touched-marks-requires : goal.mark_touched-marks-requires
-mark_touched-marks-requires c = record { slot = c.requires.slot; queue_held = ready_row _ c.requires.ready }
+mark_touched-marks-requires c = ready_row _ c.requires.ready
 
 pub returns-in-Plain : goal.returns-in-Plain
 returns-in-Plain c = wakes_plain _ _ _ _ c.in-Plain.is c.wake_plain.ensures

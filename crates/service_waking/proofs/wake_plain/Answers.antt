@@ -19,7 +19,7 @@ next : (c : After-finish) →
     let f = c.finish.new in
     let x = lent_in o.host o.adjustments o.wakings o.tally.woken in
     let y = lent_in f.host f.adjustments f.wakings (o.tally.woken + 1) in
-    Begun c.args.start.looks y (c.loop-i.tally.looks + 1) × (asleep_in (row_in f.host) < asleep_in (row_in o.host)) × (plainly c.args.slot y (c.loop-i.tally.looks + 1) ≡ plainly c.args.slot x o.tally.looks)
+    Begun c.args.start.looks y (c.loop-i.tally.looks + 1) × (asleep_in (row_in f.host) < asleep_in (row_in o.host)) × (plainly c.args.slot.index y (c.loop-i.tally.looks + 1) ≡ plainly c.args.slot.index x o.tally.looks)
 next c =
     let o = c.rounds in
     let l = c.loop-i in

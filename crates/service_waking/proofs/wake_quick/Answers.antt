@@ -46,7 +46,7 @@ next : (c : After-mark_touched-marks) →
     let x = lent_in o.host o.adjustments o.wakings o.tally.woken in
     let y = lent_in f.host f.adjustments f.wakings (o.tally.woken + 1) in
     Begun c.args.start.looks y (c.loop-i.tally.looks + 1) × (asleep_in (row_in f.host) < asleep_in (row_in o.host))
-    × (quickly c.args.slot c.mark_touched-marks.result y (c.loop-i.tally.looks + 1) ≡ quickly c.args.slot o.marks x o.tally.looks)
+    × (quickly c.args.slot.index c.mark_touched-marks.result y (c.loop-i.tally.looks + 1) ≡ quickly c.args.slot.index o.marks x o.tally.looks)
 next c =
     let o = c.rounds in
     let l = c.loop-i in
@@ -61,11 +61,11 @@ next c =
     let j : JudgedAs (world_in x).table (get_or (world_in x).queue l.i no_sleeper) k.outcome k.position k.copies = looked-at e l.i c.look-looked.ensures in
     let q : lent_in f.host f.adjustments f.wakings (o.tally.woken + 1) ≡ lent_with x (finish (world_in x) l.i) =
     ap (λ (n : ℕ). lent_in f.host f.adjustments f.wakings (n + 1)) (sym l.invariant.3) ∙ c.finish.ensures ∙ ap (λ (y : Lent). lent_with y (finish (world_in y) l.i)) e in
-    let n = quick_again_here c.args.slot x r o.tally.looks o.marks l.i l.tally.looks l.marks l.invariant.4 h c.bit_of-bit.result (rw p at c.bit_of-bit.ensures) c.if-on-ne0.true (sym s ∙ c.if-slot_at-slot.true) j
+    let n = quick_again_here c.args.slot.index x r o.tally.looks o.marks l.i l.tally.looks l.marks l.invariant.4 h c.bit_of-bit.result (rw p at c.bit_of-bit.ensures) c.if-on-ne0.true (sym s ∙ c.if-slot_at-slot.true) j
     _ o.invariant.0 (sym c.finishes.ensures ∙ c.if-finishes.true) q
     c.values_of-before.result c.values_of.result
-    (c.values_of-before.ensures ∙ ap (λ (g : List ℕ). from 0 semaphores (row c.args.slot) (row_in g values)) l.invariant.0 ∙ values_in_lem o.host o.adjustments c.args.slot c.requires.slot)
-    (c.values_of.ensures ∙ values_in_lem f.host f.adjustments c.args.slot c.requires.slot)
+    (c.values_of-before.ensures ∙ ap (λ (g : List ℕ). from 0 semaphores (row c.args.slot.index) (row_in g values)) l.invariant.0 ∙ values_in_lem o.host o.adjustments c.args.slot.index c.args.slot.there_is)
+    (c.values_of.ensures ∙ values_in_lem f.host f.adjustments c.args.slot.index c.args.slot.there_is)
     c.mark_touched-marks.result (rw c.differing_mask-touched.ensures at c.mark_touched-marks.ensures) in
     (n.begins, n.fewer, n.same)
 
@@ -120,11 +120,8 @@ mark_touched-marks-requires c =
     let h : l.i < asleep_in (row_in o.host) = rw c.asleep_of-n.ensures at c.loop-i-test.true in
     let e : lent_in l.host l.adjustments l.wakings l.tally.woken ≡ x = same l.invariant.0 l.invariant.1 l.invariant.2 l.invariant.3 in
     let q : lent_in f.host f.adjustments f.wakings (l.tally.woken + 1) ≡ lent_with x (finish (world_in x) l.i) = c.finish.ensures ∙ ap (λ (y : Lent). lent_with y (finish (world_in y) l.i)) e in
-    record {
-      slot = c.requires.slot;
-      queue_held = subst (λ (y : Lent). QueueHeld y.host.row) (sym q)
-          (ready_row _ (begun_next _ x o.tally.looks l.i (l.tally.looks + 1) o.invariant.0 h (omega (arith, l.invariant.4.looks, h, asleep_few x o.invariant.0.ready))).ready);
-    }
+    subst (λ (y : Lent). QueueHeld y.host.row) (sym q)
+    (ready_row _ (begun_next _ x o.tally.looks l.i (l.tally.looks + 1) o.invariant.0 h (omega (arith, l.invariant.4.looks, h, asleep_few x o.invariant.0.ready))).ready)
 
 pub rounds-smaller : goal.rounds-smaller
 rounds-smaller c = (next (goal.at.rounds-smaller c).After-mark_touched-marks).1

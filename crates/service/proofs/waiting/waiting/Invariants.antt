@@ -6,7 +6,7 @@ use Rattle.service.proofs.waiting.waiting.Given as goal
 
 -- `service::waiting::waiting` meets its contract. The loop's invariant is `Walked`.
 abbrev pub invariant-loop-n : goal.invariant-loop-n
-invariant-loop-n l = Walked (host_in l.host l.adjustments) l.slot l.increase l.zero l.judged l.n
+invariant-loop-n l = Walked (host_in l.host l.adjustments) l.fn.slot.index l.increase l.zero l.judged l.n
 
 abbrev pub decreases-loop-n : goal.decreases-loop-n
 decreases-loop-n l = processes - l.n

@@ -25,8 +25,8 @@ returns-in-Err c =
     c.refused.ensures
     ∙ set_refused_lem (host_in c.args.host.now c.args.adjustments.now) c.args.process c.args.identifier c.in-Err.refusal (rw (to_z-of_z c.ranges.identifier) at (c.in-Err.ensures c.args.adjustments.now))
 
-pub waiting-waiters-requires-clause-slot : goal.waiting-waiters-requires-clause-slot
-waiting-waiters-requires-clause-slot c = small (goal.at.waiting-waiters-requires-clause-slot c).After-slot_of-slot
+pub invariant_of-waiting : goal.invariant_of-waiting
+invariant_of-waiting c = record { there_is = small (goal.at.invariant_of-waiting c).After-slot_of-slot }
 
 pub returns : goal.returns
 returns c =

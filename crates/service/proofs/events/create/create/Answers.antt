@@ -19,8 +19,8 @@ pub returns-in-Err : goal.returns-in-Err
 unfolding do_create
 returns-in-Err c = refused_after (host_in c.args.host.now c.args.adjustments.now) c.requires c.in-Err.refusal _ (c.in-Err.ensures.code_value c.args.adjustments.now) c.clear.ensures c.refused.ensures
 
-pub clear_slot-requires : goal.clear_slot-requires
-clear_slot-requires c = small (host_in c.args.host.now c.args.adjustments.now) c.requires _ _ _ (c.in-Ok.ensures.code_value c.args.adjustments.now) c.in-Ok.ensures.slot_value
+pub invariant_of-clear_slot : goal.invariant_of-clear_slot
+invariant_of-clear_slot c = record { there_is = small (host_in c.args.host.now c.args.adjustments.now) c.requires _ _ _ (c.in-Ok.ensures.code_value c.args.adjustments.now) c.in-Ok.ensures.slot_value }
 
 pub overflow_cast-slot : goal.overflow_cast-slot
 overflow_cast-slot c = omega (arith, small (host_in c.args.host.now c.args.adjustments.now) c.requires _ _ _ (c.in-Ok.ensures.code_value c.args.adjustments.now) c.in-Ok.ensures.slot_value)

@@ -91,13 +91,15 @@ returns-in-Err c =
     let code = rw (to_z-of_z c.ranges.identifier) at (c.in-Err.ensures.code_value c.args.adjustments.now) in
     refused_after (host_in c.args.host.now c.args.adjustments.now) c.requires c.in-Err.refusal _ code c.clear.ensures c.refused.ensures
 
+pub invariant_of-wake : goal.invariant_of-wake
+invariant_of-wake c = record { there_is = slot_is (goal.at.invariant_of-wake c).After-judge-verdict }
+
 pub wake-requires : goal.wake-requires
 wake-requires c =
     let j = (goal.at.wake-requires c).After-judge-verdict in
     let e = c.in-Done.is in
     let lent = done_lent (x j) c.requires _ _ c.args.wait _ (passes j) c.args.engine _ _ _ (judged j) e (table j c.apply.ensures) c.clear.ensures in
     record {
-      slot = slot_is j;
       ready = begun_ready c.default.ensures lent (done_ready (x j) c.requires _ _ c.args.wait _ (passes j) c.args.engine _ _ _ (judged j) e);
       looks_le_looks_max = omega (arith, c.default.ensures.0);
     }

@@ -31,8 +31,8 @@ overflow_mul-at c = omega (arith, (small (goal.at.overflow_mul-at c).After-slot_
 pub overflow_add-at : goal.overflow_add-at
 overflow_add-at c = omega (arith, (small (goal.at.overflow_add-at c).After-slot_of-slot).0)
 
-pub waiting-waiters-requires-clause-slot : goal.waiting-waiters-requires-clause-slot
-waiting-waiters-requires-clause-slot c = (small (goal.at.waiting-waiters-requires-clause-slot c).After-slot_of-slot).0
+pub invariant_of-waiting : goal.invariant_of-waiting
+invariant_of-waiting c = record { there_is = (small (goal.at.invariant_of-waiting c).After-slot_of-slot).0 }
 
 pub bounds-waiters-n : goal.bounds-waiters-n
 bounds-waiters-n c = (small (goal.at.bounds-waiters-n c).After-slot_of-slot).1

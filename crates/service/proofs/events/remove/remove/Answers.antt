@@ -29,8 +29,8 @@ pub returns-in-Err : goal.returns-in-Err
 unfolding do_remove
 returns-in-Err c = refused_after (host_in c.args.host.now c.args.adjustments.now) c.requires c.in-Err.refusal _ (rw (to_z-of_z c.ranges.identifier) at (c.in-Err.ensures c.args.adjustments.now)) c.clear.ensures c.refused.ensures
 
-pub clear_slot-requires : goal.clear_slot-requires
-clear_slot-requires c = rw (slot (goal.at.clear_slot-requires c).After-slot_of-slot) (slot_within _)
+pub invariant_of-clear_slot : goal.invariant_of-clear_slot
+invariant_of-clear_slot c = record { there_is = rw (slot (goal.at.invariant_of-clear_slot c).After-slot_of-slot) (slot_within _) }
 
 pub end_all-woken-requires-clause-queue_held : goal.end_all-woken-requires-clause-queue_held
 end_all-woken-requires-clause-queue_held c =
