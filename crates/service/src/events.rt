@@ -20,12 +20,8 @@ pub mod set_all;
 pub mod set_value;
 pub mod signal;
 
-// The codes of a sleeper that is ended untreated, as bytes of errno.h: interrupted, its wait over, its set removed.
+// The code of errno.h for a sleeper that is interrupted.
 const EINTR: u8 = 4;
-
-const EAGAIN: u8 = 11;
-
-const EIDRM: u8 = 43;
 
 // What an event tells that is refused. Each event has one check and returns early once: an inner function for `?` would repeat its
 // whole signature. No `From`: `Told` is the crate model's, and `telling`, which says what it tells, is this one's.

@@ -65,6 +65,7 @@ fn judge_one(
 
 // The walk goes by process: a process sleeps at most once, and the masks are of processes. Each sleeper of the set is judged
 // once, and none of another set. The adjustments are lent for the premise alone: where a sleeper stops, the values tell.
+#[inline]
 pub fn waiting(host: &[u8; HOST_BYTES], adjustments: &[i16; ALL_ADJUSTMENTS], slot: Slot) -> Waiters
     requires { Held (host_in host.now adjustments.now) }
     ensures { result ≡ waiters_of (table_in (host_in host.now adjustments.now)) slot.index (queue_in (host_in host.now adjustments.now).row) }

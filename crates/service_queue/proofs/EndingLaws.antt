@@ -1,4 +1,4 @@
--- The loop of `end_all`: those for whom a test holds are ended with a code, those passed stay.
+-- The loop of `end_those`: those for whom a test holds are ended with a code, those passed stay.
 use Prim.Native.Nat.{ℕ, suc, ◌+◌, ◌≤◌, ◌<◌}
 use native.Mathlib.Numerals.{add-one}
 use native.Mathlib.Omega.{arith}

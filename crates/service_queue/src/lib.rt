@@ -9,18 +9,18 @@ ghost use Rattle.model.specs.Operation.{operations_of};
 ghost use Rattle.model.specs.Marks.{named_by};
 ghost use Rattle.model.specs.Waking.{without};
 ghost use Rattle.model.specs.Checks.{asleep};
-ghost use Rattle.model.specs.Events.{keep, not_of};
+ghost use Rattle.model.specs.Events.{keep, ended_with, not_of};
 ghost use Rattle.model.specs.Runs.{All};
 ghost use Rattle.host.specs.Parts.{order, row_in, with};
 ghost use Rattle.host.specs.Holding.{time_in, with_queue, queue_in};
 ghost use Rattle.host.specs.Queue.{Room, QueueHeld};
 ghost use Rattle.wakings.specs.Wakings.{places_in, list_of};
 ghost use Rattle.service_queue.specs.Seated.{Seated, IsPositionOf, moved_up};
-ghost use Rattle.service_queue.specs.Ended.{Tells, EndedAll};
+ghost use Rattle.service_queue.specs.Ended.{ended_by, code_by, spared_by, Tells, EndedAll};
 
 use host::{
-    HOST_BYTES, asleep_of, clear_array, process_at, put_asleep, put_call, put_process, put_wait,
-    size_at, store_array, time_of, wait_number,
+    HOST_BYTES, asleep_of, clear_array, is_due, process_at, put_asleep, put_call, put_process,
+    put_wait, size_at, slot_at, store_array, time_of, wait_number,
 };
 use model::{WAKING_BYTES, Wait};
 use wakings::note;
@@ -96,12 +96,16 @@ fn position(host: &[u8; HOST_BYTES], process: u8) -> Option<usize>
     (0..asleep_of(host)).find(|at| process_at(host, *at) == process)
 }
 
-// The sleeper of a process, if it sleeps, is taken out: did it?
+// The sleeper of a process, if it sleeps, is taken out: did it? For one that is awake the queue is not searched.
+#[inline]
 pub fn leave(host: &mut [u8; HOST_BYTES], process: u8) -> bool
     requires { Seated (row_in host.old) }
     ensures value { result ≡ asleep process (queue_in (row_in host.old)) }
     ensures host_after { row_in host.new ≡ with_queue (row_in host.old) (keep (not_of process) (queue_in (row_in host.old))) }
 {
+    if !is_asleep(&*host, process) {
+        return false;
+    }
     match position(&*host, process) {
         Some(at) => {
             take_out(host, at);
@@ -111,9 +115,50 @@ pub fn leave(host: &mut [u8; HOST_BYTES], process: u8) -> bool
     }
 }
 
-// Ends the sleepers for whose processes the test holds with a code, oldest first, and takes them out: as a removal ends those of
-// its slot, and the clock those whose wait is over. The answer is how many there were.
-pub fn end_all<F: Fn(&[u8; HOST_BYTES], u8) -> bool>(
+// The codes of errno.h for a removal and for an expiry.
+const EIDRM: u8 = 43;
+
+const EAGAIN: u8 = 11;
+
+// Whom an event ends without a look: the sleepers of a slot that is removed, or those whose wait is over at a time.
+#[derive(Clone, Copy)]
+pub enum Ending {
+    Removal(usize),
+    Expiry(u64),
+}
+
+// Ends them, oldest first, and takes them out. The answer is how many there were. Inlined, since each event that calls it needs
+// one arm alone.
+#[inline]
+pub fn end_all(
+    host: &mut [u8; HOST_BYTES],
+    wakings: &mut [u8; WAKING_BYTES],
+    ending: Ending,
+) -> usize
+    requires queue_held { QueueHeld (row_in host.old) }
+    requires wakings_value { places_in wakings.old ≡ list_of [] }
+    ensures host_after { row_in host.new ≡ with_queue (row_in host.old) (keep (spared_by ending) (queue_in (row_in host.old))) }
+    ensures wakings_after { places_in wakings.new ≡ list_of (ended_with (code_by ending) (ended_by ending) (queue_in (row_in host.old))) }
+    ensures value { result ≡ length (ended_with (code_by ending) (ended_by ending) (queue_in (row_in host.old))) }
+{
+    match ending {
+        Ending::Removal(slot) => end_those(
+            host,
+            wakings,
+            EIDRM,
+            |host, process| slot_at(host, process) == slot,
+        ),
+        Ending::Expiry(time) => end_those(
+            host,
+            wakings,
+            EAGAIN,
+            |host, process| is_due(host, process, time),
+        ),
+    }
+}
+
+// The loop of both: the sleepers for whose processes the test holds are ended with the code.
+fn end_those<F: Fn(&[u8; HOST_BYTES], u8) -> bool>(
     host: &mut [u8; HOST_BYTES],
     wakings: &mut [u8; WAKING_BYTES],
     code: u8,

@@ -4,11 +4,11 @@ ghost use Rattle.model.specs.Events.{do_clock};
 ghost use Rattle.host.specs.Holding.{Held, host_in, state_in};
 ghost use Rattle.service.specs.After.{after_in, after_of};
 
-use crate::events::{EAGAIN, refused, told};
-use host::{HOST_BYTES, is_due, put_time};
+use crate::events::{refused, told};
+use host::{HOST_BYTES, put_time};
 use model::{ALL_ADJUSTMENTS, Told, WAKING_BYTES};
 use service_checks::check_clock;
-use service_queue::end_all;
+use service_queue::{Ending, end_all};
 use service_waking::Tally;
 use wakings::clear;
 
@@ -27,12 +27,7 @@ pub fn clock(
         return refused(refusal);
     }
     put_time(&mut *host, time);
-    let woken = end_all(
-        host,
-        wakings,
-        EAGAIN,
-        |host, process| is_due(host, process, time),
-    );
+    let woken = end_all(host, wakings, Ending::Expiry(time));
     told(Tally {
         looks: 0,
         woken: woken,

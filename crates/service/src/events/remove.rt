@@ -4,12 +4,12 @@ ghost use Rattle.model.specs.Events.{do_remove};
 ghost use Rattle.host.specs.Holding.{Held, host_in, state_in};
 ghost use Rattle.service.specs.After.{after_in, after_of};
 
-use crate::events::{EIDRM, refused, told};
-use host::{HOST_BYTES, put_set, set_at, slot_at};
+use crate::events::{refused, told};
+use host::{HOST_BYTES, put_set, set_at};
 use judging::slot_of;
 use model::{ALL_ADJUSTMENTS, Set, Told, WAKING_BYTES};
 use service_checks::check_remove;
-use service_queue::end_all;
+use service_queue::{Ending, end_all};
 use service_table::{Slot, clear_slot};
 use service_waking::Tally;
 use wakings::clear;
@@ -39,12 +39,7 @@ pub fn remove(
     };
     put_set(&mut *host, slot, set);
     clear_slot(&mut *host, adjustments, Slot { index: slot });
-    let woken = end_all(
-        host,
-        wakings,
-        EIDRM,
-        |host, process| slot_at(host, process) == slot,
-    );
+    let woken = end_all(host, wakings, Ending::Removal(slot));
     told(Tally {
         looks: 0,
         woken: woken,

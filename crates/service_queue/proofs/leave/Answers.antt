@@ -10,3 +10,6 @@ returns-in-Some-clause-host_after c = left_asleep _ c.requires.holding c.in-Some
 
 pub returns-in-None-clause-host_after : goal.returns-in-None-clause-host_after
 returns-in-None-clause-host_after c = left_awake _ c.requires.holding c.in-None.ensures
+
+pub returns-then-not-is_asleep-clause-host_after : goal.returns-then-not-is_asleep-clause-host_after
+returns-then-not-is_asleep-clause-host_after c = left_awake _ c.requires.holding (sym c.if-not-is_asleep.ensures)

@@ -1,6 +1,5 @@
 mod Laws
-use Rattle.std.proofs.Common.{◌≡◌, sym, ◌∙◌, rules}
-use Rattle.model.specs.Clock.{due}
+use Rattle.std.proofs.Common.{◌≡◌, sym}
 use Rattle.model.specs.Checks.{check_clock}
 use Rattle.model.specs.Events.{do_clock}
 use Rattle.host.specs.Holding.{Host, host_in, state_in}
@@ -23,6 +22,6 @@ end_all-woken-requires-clause-queue_held c =
 
 pub returns : goal.returns
 returns c =
-    let gone = c.end_all-woken.ensures (due c.args.time) (λ h p b e. search rules) in
+    let gone = c.end_all-woken.ensures in
     expired_after (host_in c.args.host.now c.args.adjustments.now) c.requires _ (none (goal.at.returns c).After-put_time) c.put_time.ensures
     gone.host_after gone.wakings_after gone.value c.told.ensures

@@ -1,6 +1,5 @@
-use Rattle.std.proofs.Common.{rules, ◌≡◌, ◌+◌, ◌%◌, sym, ap, to_z-of_z}
+use Rattle.std.proofs.Common.{◌≡◌, ◌+◌, ◌%◌, sym, ap, to_z-of_z}
 use Rattle.model.specs.declared.Set.{Set}
-use Rattle.model.specs.Marks.{mine}
 use Rattle.model.specs.Checks.{slot_of, check_remove}
 use Rattle.model.specs.Events.{do_remove}
 use Rattle.host.specs.Parts.{row_in}
@@ -38,9 +37,8 @@ end_all-woken-requires-clause-queue_held c =
     removed_row (host_in c.args.host.now c.args.adjustments.now) c.requires _ _ (none at.After-slot_of-slot) (slot at.After-slot_of-slot) (generation at.After-set_at-old) c.put_set.ensures c.clear_slot.ensures
 
 pub returns : goal.returns
-unfolding mine
 returns c =
     let at = goal.at.returns c in
-    let gone = c.end_all-woken.ensures (mine c.slot_of-slot.result) (λ h p b e. search rules) in
+    let gone = c.end_all-woken.ensures in
     removed (host_in c.args.host.now c.args.adjustments.now) c.requires _ _ (none at.After-slot_of-slot) (slot at.After-slot_of-slot) (generation at.After-set_at-old) c.put_set.ensures c.clear_slot.ensures
     gone.host_after gone.wakings_after gone.value c.told.ensures

@@ -131,7 +131,7 @@ module _ (x : Host) (k : Held x) (p : ℕ) (i : ℤ) (wait : Wait) (bytes : List
         ap₂ (λ (l : List Place) (u : Told). record { host = x; wakings = l; told = u }) el (et ∙ ap (λ (d : Position). telling_at (pos code) d 0 0 0) named_is)
         ∙ ap (λ (y : Host). record { host = y; wakings = list_of []; told = telling_at (pos code) (decider_of (look (table_in x) (made))) 0 0 0 }) k.holds
 
-    again_after : {l : List Place} {told : Told} → o ≡ Again → l ≡ list_of [] → told ≡ telling_at (code_of o) (decided_at o (n % 256)) 0 0 0
+    pub again_after : {l : List Place} {told : Told} → o ≡ Again → l ≡ list_of [] → told ≡ telling_at (code_of o) (decided_at o (n % 256)) 0 0 0
         → record { host = x; wakings = l; told = told } ≡ after_of (do_operate (waker engine) (state_in x) p i wait bytes)
     unfolding operated code_of
     again_after e el et = judged_after 11 el (et ∙ ap (λ (y : Outcome). telling_at (code_of y) (decided_at o (n % 256)) 0 0 0) e) ∙ does e
@@ -142,7 +142,7 @@ module _ (x : Host) (k : Held x) (p : ℕ) (i : ℤ) (wait : Wait) (bytes : List
     unfolding would_sleep operated
     at_once_after e w el et = judged_after 11 el et ∙ (rw w at (does e))
 
-    range_after : {l : List Place} {told : Told} → o ≡ Range → l ≡ list_of [] → told ≡ telling_at (code_of o) (decided_at o (n % 256)) 0 0 0
+    pub range_after : {l : List Place} {told : Told} → o ≡ Range → l ≡ list_of [] → told ≡ telling_at (code_of o) (decided_at o (n % 256)) 0 0 0
         → record { host = x; wakings = l; told = told } ≡ after_of (do_operate (waker engine) (state_in x) p i wait bytes)
     unfolding operated code_of
     range_after e el et = judged_after 34 el (et ∙ ap (λ (y : Outcome). telling_at (code_of y) (decided_at o (n % 256)) 0 0 0) e) ∙ does e

@@ -11,9 +11,9 @@ use Rattle.host.specs.Queue.{QueueHeld}
 use Rattle.wakings.specs.Wakings.{places_in}
 use Rattle.service_queue.specs.Ended.{Tells}
 use Rattle.service_queue.proofs.EndingLaws.{Ended}
-use Rattle.service_queue.proofs.end_all.Given as goal
+use Rattle.service_queue.proofs.end_those.Given as goal
 
--- `service_queue::end_all` meets its contract: those before `at` stay, and the others wait to be asked.
+-- `service_queue::end_those` meets its contract: those before `at` stay, and the others wait to be asked.
 abbrev pub invariant-loop : goal.invariant-loop
 invariant-loop g l =
     QueueHeld (row_in l.host) × (l.counter + length (queue_in (row_in l.host)) ≡ l.end + l.at) × (l.woken + length (queue_in (row_in l.host)) ≤ processes)
