@@ -47,7 +47,7 @@ says_number {h} k p i x l m e =
     let b = bytes_of (width p) x in
     record { long = ap length e ∙ length-sets h (spot p i) b ∙ k.long; same = ap row_in e ∙ write_part p i x h k.long l m ∙ ap (λ (y : Row). put y p i x) k.same }
 
-take_min : (m n : ℕ) (l : List ℕ) → take m (take n l) ≡ take (min n m) l
+pub take_min : (m n : ℕ) (l : List ℕ) → take m (take n l) ≡ take (min n m) l
 take_min m n l = ⊎_elim
     (λ a. let b : m ≤ n = omega arith in take-take m n l b ∙ ap (λ (k : ℕ). take k l) (sym (min-eq_right b)))
     (λ b. take_all m (take n l) (omega (arith, length-take n l, min-le_left n (length l))) ∙ ap (λ (k : ℕ). take k l) (sym (min-eq_left b)))

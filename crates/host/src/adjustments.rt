@@ -34,7 +34,7 @@ pub fn adjustments_of(
     array::from_fn(|j| adjustments[start + j])
 }
 
-// A process gets these adjustments for a slot.
+// A process gets these adjustments for a slot. One by one, as `put_bytes` does.
 pub fn put_adjustments(
     adjustments: &mut [i16; ALL_ADJUSTMENTS],
     process: u8,
@@ -44,7 +44,10 @@ pub fn put_adjustments(
     ensures { adjustments.new ≡ sets adjustments.old (undo_at process slot) new }
 {
     if let Some(start) = start_of(process, slot) {
-        adjustments[start..start + SEMAPHORES].copy_from_slice(&new);
+        for (j, adjustment) in new.iter().enumerate() {
+            let adjustment = *adjustment;
+            adjustments[start + j] = adjustment;
+        }
     }
 }
 

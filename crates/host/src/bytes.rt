@@ -102,14 +102,19 @@ fn bytes_at<const N: usize>(bytes: &[u8], at: usize) -> [u8; N]
     requires { at + N ≤ length bytes.now }
     ensures { result ≡ between at (at + N) bytes.now }
 {
-    let mut out = [0; N];
-    out.copy_from_slice(&bytes[at..at + N]);
-    out
+    match bytes[at..].first_chunk() {
+        Some(bytes) => *bytes,
+        None => [0; N],
+    }
 }
 
+// Byte by byte: `copy_from_slice` asks whether the two overlap, which takes longer than to copy so few, and of any number of bytes
+// it is a call of the C library's memmove.
 pub fn put_bytes(bytes: &mut [u8], at: usize, new: &[u8])
     requires { at + length new.now ≤ length bytes.old }
     ensures { bytes.new ≡ sets bytes.old at new.now }
 {
-    bytes[at..at + new.len()].copy_from_slice(new);
+    for (k, byte) in new.iter().enumerate() {
+        bytes[at + k] = *byte;
+    }
 }
