@@ -38,10 +38,10 @@ digits_more zero h = absurd (no h)
     no z = omega arith
 digits_more (suc n) h = rw (le-ltb (suc n) 10 h) (ap (λ l. l ++ digit (suc n % 10) ∷ []) (same n (suc n / 10) (suc n / 10) (omega arith) (omega arith)))
 
-count_one : (n : ℕ) → n < 10 → length (digits_of n) ≡ 1
+pub count_one : (n : ℕ) → n < 10 → length (digits_of n) ≡ 1
 count_one n h = ap length (digits_one n h)
 
-count_more : (n : ℕ) → 10 ≤ n → length (digits_of n) ≡ length (digits_of (n / 10)) + 1
+pub count_more : (n : ℕ) → 10 ≤ n → length (digits_of n) ≡ length (digits_of (n / 10)) + 1
 count_more n h = ap length (digits_more n h) ∙ length-append (digits_of (n / 10)) (digit (n % 10) ∷ [])
 
 -- a number below 10 ^ k has at most k digits

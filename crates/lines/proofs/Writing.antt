@@ -1,6 +1,6 @@
 -- Texts written one behind the other.
 use Prim.Native.Nat.{ℕ, ◌+◌, ◌≤◌}
-use mathlib.Core.Path.{◌≡◌, refl, ap, ◌∙◌}
+use mathlib.Core.Path.{◌≡◌, refl, sym, ap, subst, ◌∙◌}
 use mathlib.Core.Bool.{Bool, true, false}
 use mathlib.Core.List.{List, [], ◌++◌, append_assoc}
 use native.Mathlib.Nat.{add_assoc}
@@ -56,6 +56,12 @@ also p q =
 
 pub at_most : {m n : ℕ} {before after : Writer} {s : List ℕ} → Wrote m before s after → m ≤ n → Wrote n before s after
 at_most p h = record { same_reference = p.same_reference; put = p.put; short = omega (arith, p.short); same_length = p.same_length }
+
+-- a sign or none, and digits
+pub signed : {most : ℕ} {before between after : Writer} {sign digits text : List ℕ} → Wrote (length sign) before sign between → Wrote (length digits) between digits after
+    → text ≡ sign ++ digits → length text ≤ most → Wrote most before text after
+signed {most} {before} {between} {after} {sign} {digits} p q e h =
+    subst (λ (t : List ℕ). Wrote most before t after) (sym e) (at_most (also p q) (omega (arith, h, ap length e ∙ length-append sign digits)))
 
 -- ---- whole lines
 

@@ -7,6 +7,7 @@
 // stands between would have its contract written at each call, which is no plainer.
 #![tactic(auto)]
 
+mod number;
 mod writer;
 
 ghost use Rattle.std.specs.Prelude.{◌≡◌, ◌+◌, ◌*◌, ◌≤◌, leb, length, take, pos};
