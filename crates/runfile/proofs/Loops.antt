@@ -1,7 +1,7 @@
--- What a turn of `bodies_code` goes by: the table from its k-th entry on.
+-- What a turn of `check_bodies` goes by: the table from its k-th entry on.
 use Prim.Native.Nat.{ℕ, zero, suc, ◌+◌, ◌*◌, ◌-◌, ◌/◌, ◌<◌, ◌≤◌}
 use native.Mathlib.Nat.{mul-suc}
-use mathlib.Core.Path.{◌≡◌, refl, ap, ◌∙◌}
+use mathlib.Core.Path.{◌≡◌, refl, sym, ap, ◌∙◌}
 use mathlib.Core.Bool.{Bool, true, false, cond}
 use mathlib.Core.List.{List, [], ◌∷◌}
 use native.Mathlib.Omega.{arith}
@@ -13,7 +13,8 @@ use Rattle.std.proofs.lemmas.List.{get_or-drop, drop-drop}
 use Rattle.runfile.specs.Fields.{byte_at, half_at}
 use borrow.Author.Tests.{eq-eqb, ne_eqb}
 use Rattle.std.specs.Prelude.{Result, Ok, Err}
-use Rattle.std.specs.Result.{result_and}
+use Rattle.std.specs.Result.{is_ok, result_and}
+use Rattle.std.proofs.Common.{true≢false}
 use Rattle.model.specs.Events.{Event}
 use Rattle.runfile.specs.Table.{head_bytes, entry_bytes, Entry, entry_at, entries_from, table_of, table_end, chains}
 use Rattle.runfile.specs.Body.{body_code}
@@ -100,6 +101,18 @@ code_and (Err Table) b = refl
 code_and (Err Offsets) b = refl
 code_and (Err UnknownKind) b = refl
 code_and (Err Size) b = refl
+
+-- .. so what is next counts where there was none, and else does not
+pub code_next_of : (a b : Result Unit BadFile) → is_ok a ≡ true → code_in b ≡ first_of (code_in a) (code_in b)
+code_next_of (Ok x) b h = code_and (Ok x) b
+code_next_of (Err e) b h = absurd (true≢false (sym h))
+
+pub code_kept : (a : Result Unit BadFile) → is_ok a ≡ false → (next : ℕ) → code_in a ≡ first_of (code_in a) next
+code_kept (Ok x) h next = absurd (true≢false h)
+code_kept (Err Table) h next = refl
+code_kept (Err Offsets) h next = refl
+code_kept (Err UnknownKind) h next = refl
+code_kept (Err Size) h next = refl
 
 -- ---- the code of a file whose next body is due at a position, with the code of those before it
 

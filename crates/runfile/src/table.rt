@@ -42,7 +42,10 @@ fn check_bodies(file: &[u8], n: usize) -> Result<(), BadFile>
         if offset != at {
             return Err(BadFile::Offsets);
         }
-        bodies = bodies.and(check_body(file, at, size));
+        // Behind a bad one the others only have to follow on.
+        if bodies.is_ok() {
+            bodies = check_body(file, at, size);
+        }
         at += size;
     }
     if at == file.len() {

@@ -6,11 +6,12 @@ use lib.Dec.{eqb}
 use lib.ListN.{length}
 use borrow.Author.Tests.{eq-eqb, ne_eqb}
 use Rattle.runfile.specs.Fields.{half_at}
+use Rattle.runfile.specs.Body.{body_code}
 use Rattle.runfile.specs.Table.{table_end}
 use Rattle.runfile.specs.File.{bodies_of, bad_code, code_in}
-use Rattle.runfile.proofs.Loops.{table_from, entries_count, half_in_entry, first_of, code_and, code_from, code_whole, code_next, code_stop, code_end}
+use Rattle.runfile.proofs.Loops.{table_from, entries_count, half_in_entry, first_of, code_next_of, code_kept, code_from, code_whole, code_next, code_stop, code_end}
 use Rattle.runfile.proofs.table.check_bodies.Goals as goal
-use Rattle.runfile.proofs.table.check_bodies.Goals.{After-from_le_bytes-size, After-loop-entry}
+use Rattle.runfile.proofs.table.check_bodies.Goals.{After-from_le_bytes-size, After-loop-entry, Joined-is_ok, then-is_ok, else-is_ok}
 
 -- an entry of the n
 within : (c : After-from_le_bytes-size) → c.loop-entry.entry-index < c.args.n
@@ -42,14 +43,23 @@ returns-then-offset-at c =
     let s = (goal.at.returns-then-offset-at c).After-from_le_bytes-size in
     sym (l.invariant.1 ∙ code_stop a.file.now a.n l.entry-index (code_in l.bodies) l.at (within s) (λ e. c.if-offset-at.true (offset-is s ∙ e)))
 
+-- the code with this body's, which is asked for where no one before is bad
+next_code : (c : Joined-is_ok) → code_in c.if-is_ok.bodies ≡ first_of (code_in c.loop-entry.bodies) (body_code c.args.file.now c.loop-entry.at c.from_le_bytes-size.result)
+next_code c =
+    let old = c.loop-entry.bodies in
+    elim c.if-is_ok.branch [
+      | then-is_ok w ↦
+          rw w.bodies-is (code_next_of old _ (sym c.is_ok.ensures.value ∙ w.if-is_ok.true) ∙ ap (first_of (code_in old)) w.check_body-bodies.ensures)
+      | else-is_ok w ↦ rw w.bodies-is (code_kept old (sym c.is_ok.ensures.value ∙ w.if-is_ok.false) _)
+    ]
+
 pub loop-entry-preserved : goal.loop-entry-preserved
 loop-entry-preserved c =
     let a = c.args in
     let l = c.loop-entry in
     let s = (goal.at.loop-entry-preserved c).After-from_le_bytes-size in (
       omega (arith, c.from_le_bytes-offset.type_inv, c.from_le_bytes-size.type_inv),
-      l.invariant.1
-          ∙ code_next a.file.now a.n l.entry-index (code_in l.bodies) l.at (within s) (sym (offset-is s) ∙ c.if-offset-at.false) (size-is s) (ap code_in c.and-bodies.ensures ∙ code_and _ _ ∙ ap (first_of _) c.check_body.ensures),
+      l.invariant.1 ∙ code_next a.file.now a.n l.entry-index (code_in l.bodies) l.at (within s) (sym (offset-is s) ∙ c.if-offset-at.false) (size-is s) (next_code c),
     )
 
 pub returns-then-at-file : goal.returns-then-at-file
